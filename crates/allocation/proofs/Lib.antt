@@ -1,0 +1,14 @@
+pub mod Counts
+pub mod Seating
+pub mod Shares
+pub mod Turning
+pub mod Leading
+pub mod TurnRuns
+pub mod Drawn
+pub mod Arrays
+pub mod Tables
+pub mod Stages
+pub mod Steps
+pub mod Room
+pub mod Opposite
+pub mod Laps

@@ -1,0 +1,9 @@
+pub mod Rankings
+pub mod Wheels
+pub mod ByTime
+pub mod Turns
+pub mod Dealings
+pub mod Leads
+pub mod Amounts
+pub mod Memory
+pub mod Cases
