@@ -31,7 +31,7 @@ pub impl Claimed for Claim as ClaimItself {
 }
 
 /// Which claims draw on one allotment.
-pub trait Grouping {
+pub(crate) trait Grouping {
     ghost group: { Claim → ℕ };
 
     fn group(claim: Claim) -> usize
@@ -39,12 +39,12 @@ pub trait Grouping {
 }
 
 /// All claims draw on one allotment.
-pub struct Together;
+pub(crate) struct Together;
 
 /// Each participant's claims draw on an allotment of its own.
-pub struct ByParticipant;
+pub(crate) struct ByParticipant;
 
-pub impl Grouping for Together as OneGroup {
+impl Grouping for Together as OneGroup {
     ghost group = { λ _. 0 };
 
     fn group(_claim: Claim) -> usize {
@@ -52,7 +52,7 @@ pub impl Grouping for Together as OneGroup {
     }
 }
 
-pub impl Grouping for ByParticipant as EachParticipant {
+pub(crate) impl Grouping for ByParticipant as EachParticipant {
     ghost group = { λ c. c .participant };
 
     fn group(claim: Claim) -> usize {
@@ -72,7 +72,11 @@ pub(crate) fn draw(allotted: &mut [u32], k: usize, size: u32) -> u32
 }
 
 /// Each claim in order takes what it can of what is allotted to its group.
-pub fn by_time<G: Grouping, C: Claimed>(claims: &[C], allotted: &mut [u32], shares: &mut [u32])
+pub(crate) fn by_time<G: Grouping, C: Claimed>(
+    claims: &[C],
+    allotted: &mut [u32],
+    shares: &mut [u32],
+)
     requires one_each { ⌜ length (now shares) ≡ length (now claims) ⌝ }
     requires groups_there { ⌜ All (λ c. group (claim c) < length (now allotted)) (now claims) ⌝ }
     ensures { λ _. ⌜ now (shares .exit) ≡ time-shares (λ k. getD (now (allotted .entry)) k 0) (map (λ c. (group (claim c), claim c .size)) (now (claims .entry))) ⌝ }

@@ -6,12 +6,12 @@ ghost use lib.ListN.{length};
 ghost use Rattle.std.specs.shelf.Lists.{All};
 ghost use Rattle.allocation.specs.Dealings.{Deal, Lawful, Seated, total, interest, time, parity};
 ghost use Rattle.allocation.specs.Memory.{wheelOf};
-use super::ByParticipant;
 use super::Claimed;
 use super::Wheel;
-use super::by_time;
 use super::in_order;
+use crate::claims::ByParticipant;
 use crate::claims::EachParticipant;
+use crate::claims::by_time;
 use crate::turns::interests_left;
 use crate::turns::take_turns;
 

@@ -6,15 +6,9 @@ mod prices;
 mod turns;
 mod wheels;
 
-pub use claims::ByParticipant;
 pub use claims::Claim;
 pub use claims::ClaimItself;
 pub use claims::Claimed;
-pub use claims::EachParticipant;
-pub use claims::Grouping;
-pub use claims::OneGroup;
-pub use claims::Together;
-pub use claims::by_time;
 pub use claims::in_order;
 pub use dealings::Dealing;
 pub use dealings::Parity;

@@ -33,7 +33,7 @@ impl Wheel {
         ensures count { λ r. ⌜ r ≡ length (wheelOf (now (self .entry)) .seats) ⌝ }
         ensures most { λ r. ⌜ r ≤ 24 ⌝ }
     {
-        self.len
+        self.seats().len()
     }
 
     /// The seats from the pointer onward.

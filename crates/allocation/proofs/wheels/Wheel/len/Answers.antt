@@ -1,12 +1,10 @@
-use mathlib.Core.Path.{_≡_, sym}
+use mathlib.Core.Path.{_≡_, ap}
 use native.Mathlib.Omega.{arith}
 use lib.ListN.{length}
-use borrow.Author.Needs.{needs}
-use Rattle.std.proofs.shelf.Lists.{length-take-le}
+use Rattle.std.proofs.shelf.Lists.{length-take}
 use Rattle.allocation.proofs.wheels.Wheel.len.Needs as need
 
 pub returns : need.returns
 returns c =
     let w = c .args .self .now in
-    let long : length (w .seats) ≡ 24 = search needs in
-    record { count = sym (length-take-le (w .len) (w .seats) (omega (arith, w .fits))); most = w .fits }
+    record { count = ap length (c .seats .ensures); most = omega (arith, ap length (c .seats .ensures), length-take (w .len) (w .seats), w .fits) }
