@@ -22,6 +22,4 @@ pub use prices::BuyersRanking;
 pub use prices::Ranking;
 pub use prices::Sellers;
 pub use prices::SellersRanking;
-pub use prices::Turned;
-pub use prices::TurnedRanking;
 pub use wheels::Wheel;

@@ -1,11 +1,10 @@
 //! Rankings of prices: which of two prices is at least as good.
 ghost use mathlib.Core.Path.{_≡_};
-ghost use mathlib.Core.Bool.{Bool, cond};
+ghost use mathlib.Core.Bool.{Bool};
 ghost use mathlib.Core.Logic.{_⊎_};
 ghost use Prim.Native.Nat.{ℕ};
-ghost use lib.Dec.{leb, eqb};
+ghost use lib.Dec.{leb};
 ghost use Rattle.allocation.specs.Rankings.{TotalOrder};
-use std::marker::PhantomData;
 
 /// A total order on prices, and the letter of the side that it is for.
 pub trait Ranking {
@@ -29,6 +28,13 @@ pub trait Ranking {
     /// Whether `a` is at least as good as `b`.
     fn at_least(a: u32, b: u32) -> bool
         ensures { λ r. ⌜ r ≡ good a b ⌝ };
+
+    /// The order turned round, for the opposite side: whether `a` is at least as good as `b` there.
+    fn at_least_opposite(a: u32, b: u32) -> bool
+        ensures { λ r. ⌜ r ≡ good b a ⌝ }
+    {
+        Self::at_least(b, a)
+    }
 }
 
 /// Buyers: a higher price is better.
@@ -38,11 +44,6 @@ pub struct Buyers;
 /// Sellers: a lower price is better.
 #[derive(Clone, Copy)]
 pub struct Sellers;
-
-/// A ranking turned round, for the other side.
-pub struct Turned<K: Ranking> {
-    pub ranking: PhantomData<K>,
-}
 
 pub impl Ranking for Buyers as BuyersRanking {
     const LETTER: char = 'B';
@@ -73,21 +74,5 @@ pub impl Ranking for Sellers as SellersRanking {
 
     fn at_least(a: u32, b: u32) -> bool {
         a <= b
-    }
-}
-
-pub impl<K: Ranking> Ranking for Turned<K> as TurnedRanking {
-    const LETTER: char = if K::LETTER == 'B' { 'S' } else { 'B' };
-
-    ghost good = { λ a b. K·Ranking .good b a };
-
-    ghost initial = { cond (eqb (K·Ranking .initial) 66) 83 66 };
-
-    fn initial() -> char {
-        if K::initial() == 'B' { 'S' } else { 'B' }
-    }
-
-    fn at_least(a: u32, b: u32) -> bool {
-        K::at_least(b, a)
     }
 }
