@@ -72,11 +72,8 @@ impl Wheel {
         if self.len == 0 {
             return 0;
         }
-        if who.keeps(self.seats[0]) {
-            self.used
-        } else {
-            0
-        }
+        let stays = who.keeps(self.seats[0]);
+        if stays { self.used } else { 0 }
     }
 
     /// Every seat is lost but those that are kept. If the first is lost, the next has used nothing.

@@ -9,20 +9,20 @@ use Rattle.allocation.specs.Wheels.{first-stays}
 use Rattle.allocation.proofs.Arrays.{first-stays-at}
 use Rattle.allocation.proofs.wheels.Wheel.used_after.Needs as need
 
-pub returns-then-keeps : need.returns-then-keeps
-returns-then-keeps g c =
+pub returns-then-stays : need.returns-then-stays
+returns-then-stays g c =
     let w = c .args .self .now in
     let long : length (w .seats) ≡ 24 = search needs in
     let t = g .K·KeepsSeat .keeps (c .args .who .now) in
     let some : 0 < w .len = omega arith in
-    let e : first-stays t (take (w .len) (w .seats)) ≡ true = first-stays-at t (w .len) (w .seats) some (omega (arith, w .fits)) ∙ sym (c .keeps .ensures) ∙ c .if-keeps .taken in
+    let e : first-stays t (take (w .len) (w .seats)) ≡ true = first-stays-at t (w .len) (w .seats) some (omega (arith, w .fits)) ∙ sym (c .keeps-stays .ensures) ∙ c .if-stays .taken in
     sym (cond-true _ (w .used) 0 e)
 
-pub returns-else-keeps : need.returns-else-keeps
-returns-else-keeps g c =
+pub returns-else-stays : need.returns-else-stays
+returns-else-stays g c =
     let w = c .args .self .now in
     let long : length (w .seats) ≡ 24 = search needs in
     let t = g .K·KeepsSeat .keeps (c .args .who .now) in
     let some : 0 < w .len = omega arith in
-    let e : first-stays t (take (w .len) (w .seats)) ≡ false = first-stays-at t (w .len) (w .seats) some (omega (arith, w .fits)) ∙ sym (c .keeps .ensures) ∙ c .if-keeps .left in
+    let e : first-stays t (take (w .len) (w .seats)) ≡ false = first-stays-at t (w .len) (w .seats) some (omega (arith, w .fits)) ∙ sym (c .keeps-stays .ensures) ∙ c .if-stays .left in
     sym (cond-false _ (w .used) 0 e)
