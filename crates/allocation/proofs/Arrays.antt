@@ -4,10 +4,11 @@ use mathlib.Core.Bool.{Bool, true, false}
 use mathlib.Core.List.{List, [], _∷_, _++_}
 use Prim.Native.Nat.{ℕ, zero, suc, _+_, _-_, _≤_, _<_}
 use native.Mathlib.Omega.{arith}
+use native.Mathlib.Nat.{sub-zero}
 use lib.Dec.{eqb}
 use lib.ListN.{length, getD, set, take, drop}
 use Rattle.std.proofs.shelf.Tests.{eq-eqb, ne-eqb}
-use Rattle.std.proofs.shelf.Lists.{take-more-set, length-take-le, length-take, length-drop, take-take, take-at}
+use Rattle.std.proofs.shelf.Lists.{length-take-le, length-take, length-drop, take-at, getD-take, getD-drop, same-lists}
 use Rattle.allocation.specs.Wheels.{Wheel, wheel-with, first-served, first-stays, no-seat, first-seat}
 
 pub none-take : (n : ℕ) (xs : List ℕ) → n ≤ length xs → eqb n 0 ≡ no-seat (take n xs)
@@ -19,13 +20,6 @@ pub first-take : (n : ℕ) (xs : List ℕ) → 0 < length (take n xs) → getD x
 first-take zero xs h = absurd (omega arith)
 first-take (suc n) [] h = absurd (omega arith)
 first-take (suc n) (x ∷ xs) h = refl
-
--- the front of the front, turned, without its last
-pub lose-last : (n : ℕ) (xs ys : List ℕ) → n ≤ length xs → 0 < length (take n xs) → take n ys ≡ drop 1 (take n xs) ++ take 1 (take n xs) → take (n - 1) ys ≡ drop 1 (take n xs)
-lose-last n xs ys within h e =
-    let s = take n xs in
-    let long : length (drop 1 s) ≡ n - 1 = omega (arith, length-drop 1 s, length-take-le n xs within) in
-    sym (take-take (n - 1) n ys (omega arith)) ∙ ap (take (n - 1)) e ∙ take-at (drop 1 s) (take 1 s) (n - 1) long
 
 pub served-lost : (R : ℕ) (kept : Bool) (s : List ℕ) (u : ℕ) → 0 < length s → kept ≡ false → wheel-with (drop 1 s) 0 ≡ first-served R kept s u
 served-lost R kept [] u h e = absurd (omega arith)
@@ -51,6 +45,10 @@ none-stays t n xs e = rw e
 pub turned-front : (n : ℕ) (xs part post : List ℕ) → n ≤ length xs → part ≡ drop 1 (take n xs) ++ take 1 (take n xs) → length part ≡ length (take n xs) → take n (part ++ post) ≡ drop 1 (take n xs) ++ take 1 (take n xs)
 turned-front n xs part post within e size = take-at part post n (omega (arith, length-take-le n xs within)) ∙ e
 
--- the front without the first, where the array has the turned front
-pub lost-front : (n m : ℕ) (xs ys : List ℕ) → m ≡ n → n ≤ length xs → 0 < length (take n xs) → take m ys ≡ drop 1 (take n xs) ++ take 1 (take n xs) → take (m - 1) ys ≡ drop 1 (take n xs)
-lost-front n m xs ys same within some e = ap (λ k. take (k - 1) ys) same ∙ lose-last n xs ys within some (ap (λ k. take k ys) (sym same) ∙ e)
+-- the front without its first, where each has moved one place
+pub lost-front : (n : ℕ) (xs ys : List ℕ) → n ≤ length xs → length ys ≡ length xs → ((k d : ℕ) → k < n - 1 → getD ys k d ≡ getD xs (1 + (k - 0)) d) → take (n - 1) ys ≡ drop 1 (take n xs)
+lost-front n xs ys within same moved =
+    same-lists (take (n - 1) ys) (drop 1 (take n xs)) (omega (arith, length-take (n - 1) ys, length-drop 1 (take n xs), length-take n xs))
+    (λ k d h.
+    let inside : k < n - 1 = omega (arith, length-take (n - 1) ys) in
+    getD-take (n - 1) ys k d inside ∙ moved k d inside ∙ ap (λ m. getD xs (1 + m) d) (sub-zero k) ∙ sym (getD-take n xs (1 + k) d (omega arith)) ∙ sym (getD-drop 1 (take n xs) k d))

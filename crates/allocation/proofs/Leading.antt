@@ -9,6 +9,7 @@ use lib.Dec.{eqb, ltb}
 use Rattle.std.proofs.shelf.Tests.{cases-eq, eq-eqb, ne-eqb, eqb-true, eqb-false, ltb-true, ltb-false, cond-both, cases-bool, cond-true, cond-false, true≢false}
 use Rattle.allocation.specs.Wheels.{Wheel, wheel-with, seats-of, has-first-seat, take-last-seat, lose-seat, first-stays, retain, other-than, first-served}
 use Rattle.std.specs.shelf.Lists.{kept-by}
+use Rattle.allocation.specs.Dealings.{Seated}
 use Rattle.allocation.specs.Leads.{Event, takes-turn, takes-seat, loses-seat, after, event-share, Legal, run, shares-taken, Legal-run, Keeps-seat, Sound, Nobody-leads-by-more-than-a-lot}
 use Rattle.allocation.proofs.Seating.{seats-kept}
 use Rattle.allocation.proofs.Counts.{seats-append}
@@ -239,3 +240,19 @@ runs-back R w (e ∷ es) fs r = runs-back R (after R w e) es fs (r .1)
 pub nobody-leads : Nobody-leads-by-more-than-a-lot
 nobody-leads R w before later s runs p q kept-seat =
     lead R (run R w before) later (run-sound R w before s (runs-front R w before later runs)) (runs-back R w before later runs) p q kept-seat
+
+-- a wheel that seats those with interest is sound, and so is one without seats
+pub seated-sound : (R : ℕ) (w : Wheel) (f : ℕ → ℕ) → Seated R w f → Sound R w
+seated-sound R w f s = (s .below, λ k. omega (arith, s .once k))
+
+pub empty-sound : (R : ℕ) → 0 < R → Sound R (wheel-with [] 0)
+empty-sound R pos = (pos, λ k. omega arith)
+
+-- who keeps its seat over a run of two parts keeps it over each
+pub keeps-front : (R p : ℕ) (w : Wheel) (es fs : List Event) → Keeps-seat R p w (es ++ fs) → Keeps-seat R p w es
+keeps-front R p w [] fs k = keeps-now R p w fs k
+keeps-front R p w (e ∷ es) fs k = (k .0, keeps-front R p (after R w e) es fs (k .1))
+
+pub keeps-back : (R p : ℕ) (w : Wheel) (es fs : List Event) → Keeps-seat R p w (es ++ fs) → Keeps-seat R p (run R w es) fs
+keeps-back R p w [] fs k = k
+keeps-back R p w (e ∷ es) fs k = keeps-back R p (after R w e) es fs (k .1)

@@ -10,9 +10,14 @@ use lib.ListN.{length, take, drop}
 use Rattle.std.specs.shelf.Lists.{All, kept-by}
 use Rattle.std.proofs.shelf.Tests.{cases-eq, eq-eqb, ne-eqb, cond-true, cond-false, cond-both}
 use Rattle.std.proofs.shelf.Lists.{take-append-drop}
-use Rattle.allocation.specs.Wheels.{seats-of, Once-each}
+use Rattle.allocation.specs.Wheels.{seats-of}
 use Rattle.allocation.proofs.Counts.{seats-append}
 use Rattle.allocation.proofs.Seating.{seats-kept}
+
+-- what the type of a wheel says of its seats: participants from 1 to 24, each with one at most
+pub record Once-each (seats : List ℕ) : Type 0 where
+  pub once : (k : ℕ) → seats-of k seats ≤ 1
+  pub known : (k : ℕ) → 0 < seats-of k seats → (0 < k) × (k < 25)
 
 -- the sum of f below n
 abbrev under : ℕ → (ℕ → ℕ) → ℕ

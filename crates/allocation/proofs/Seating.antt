@@ -10,7 +10,7 @@ use lib.ListN.{length}
 use Rattle.std.specs.shelf.Lists.{All, kept-by}
 use Rattle.std.proofs.shelf.Lists.{length-push}
 use Rattle.std.proofs.shelf.Tests.{cases-eq, eq-eqb, ne-eqb, ltb-true, ltb-false, cond-both}
-use Rattle.allocation.specs.Wheels.{Wheel, wheel-with, seats-of, first-stays, retain, other-than, take-last-seat, lose-seat, ensure-seat, Once-each}
+use Rattle.allocation.specs.Wheels.{Wheel, wheel-with, seats-of, first-stays, retain, other-than, take-last-seat, lose-seat, ensure-seat}
 use Rattle.allocation.specs.Dealings.{Seated, interest}
 use Rattle.allocation.specs.declared.claims.Claim.{Claim}
 use Rattle.allocation.proofs.Counts.{seats-append}
@@ -35,7 +35,8 @@ seats-kept t k (p ∷ ps) =
     (λ n. kept-other (t p) (t k) k p (kept-by t ps) ps (ne-eqb k p n) ih)
     (cases-eq k p)
 
-retain-empty : (t : ℕ → Bool) (ps : List ℕ) (u : ℕ) → kept-by t ps ≡ [] → cond (first-stays t ps) u 0 ≡ 0
+-- where nobody stays, used is 0
+pub retain-empty : (t : ℕ → Bool) (ps : List ℕ) (u : ℕ) → kept-by t ps ≡ [] → cond (first-stays t ps) u 0 ≡ 0
 retain-empty t [] u e = refl
 retain-empty t (p ∷ ps) u e = go (t p) e
   where
@@ -93,19 +94,3 @@ seated-ensure R w f g p s is others =
     (λ n. omega (arith, others k n))
     (cases-eq k p)))
     (λ e. seated-join R w f g p s (omega (arith, ltb-false 0 (seats-of p (w .seats)) e, s .once p)) is others)
-
-interest-known : (cs : List Claim) → All (λ c. (0 < c .participant) × (c .participant < 25)) cs → (k : ℕ) → 0 < interest k cs → (0 < k) × (k < 25)
-interest-known [] all k h = absurd (omega arith)
-interest-known (c ∷ cs) all k h =
-    ⊎-elim
-    (λ e. (omega (arith, e, all .0 .0), omega (arith, e, all .0 .1)))
-    (λ n. interest-known cs (all .1) k (omega (arith, rw (ne-eqb k (c .participant) n) at h)))
-    (cases-eq k (c .participant))
-
--- a wheel that seats known claimants has room for one more
-pub seated-once : (R : ℕ) (w : Wheel) (cs : List Claim) → Seated R w (λ p. interest p cs) → All (λ c. (0 < c .participant) × (c .participant < 25)) cs → Once-each (w .seats)
-seated-once R w cs s all =
-    record {
-      once = λ k. omega (arith, s .once k);
-      known = λ k h. interest-known cs all k (omega (arith, s .once k));
-    }

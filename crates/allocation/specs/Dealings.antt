@@ -19,10 +19,12 @@ pub record Dealt : Type 0 where
 abbrev pub Deal : Type 0
 Deal = ℕ → Wheel → ℕ → List Claim → Dealt
 
+-- all claims together
 abbrev pub total : List Claim → ℕ
 total [] = 0
 total (c ∷ cs) = c .size + total cs
 
+-- all shares together
 abbrev pub sum : List ℕ → ℕ
 sum [] = 0
 sum (x ∷ xs) = x + sum xs
@@ -57,6 +59,8 @@ pub record Seated (R : ℕ) (w : Wheel) (interests : ℕ → ℕ) : Type 0 where
   pub below : w .used < R
   pub empty : w .seats ≡ [] → w .used ≡ 0
 
+-- a quantity q is well dealt: no share above its claim, in sum the lesser of quantity and claims,
+-- and the wheel seats exactly those with a claim left
 pub record Well-dealt (q : ℕ) (R : ℕ) (cs : List Claim) (d : Dealt) : Type 0 where
   pub within : Within (d .shares) cs
   pub all : sum (d .shares) ≡ min q (total cs)

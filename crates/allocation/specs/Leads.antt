@@ -16,6 +16,7 @@ pub data Event : Type 0 where
   takes-seat : ℕ → Event
   loses-seat : ℕ → Event
 
+-- the wheel after an event
 abbrev pub after : ℕ → Wheel → Event → Wheel
 after R w (takes-turn x kept) = first-served R kept (w .seats) (w .used + x)
 after R w (takes-seat p) = take-last-seat w p
@@ -33,6 +34,7 @@ Legal R w (takes-turn x kept) = (0 < x) × (w .used + x ≤ R)
 Legal R w (takes-seat p) = seats-of p (w .seats) ≡ 0
 Legal R w (loses-seat p) = Unit {0}
 
+-- the wheel after a run of events
 abbrev pub run : ℕ → Wheel → List Event → Wheel
 run R w [] = w
 run R w (e ∷ es) = run R (after R w e) es
@@ -42,6 +44,7 @@ abbrev pub shares-taken : ℕ → ℕ → Wheel → List Event → ℕ
 shares-taken R p w [] = 0
 shares-taken R p w (e ∷ es) = event-share p w e + shares-taken R p (after R w e) es
 
+-- each event of a run is legal where it happens
 abbrev pub Legal-run : ℕ → Wheel → List Event → Type 0
 Legal-run R w [] = Unit {0}
 Legal-run R w (e ∷ es) = Legal R w e × Legal-run R (after R w e) es
@@ -62,6 +65,7 @@ Nobody-leads-by-more-than-a-lot =
     (R : ℕ) (w : Wheel) (before later : List Event) → Sound R w → Legal-run R w (before ++ later) → (p q : ℕ) → Keeps-seat R p (run R w before) later
     → shares-taken R q (run R w before) later ≤ shares-taken R p (run R w before) later + R
 
+-- a turn, and no seat taken or lost
 abbrev pub Is-turn : Event → Type 0
 Is-turn (takes-turn x kept) = Unit {0}
 Is-turn (takes-seat p) = ⊥

@@ -11,5 +11,6 @@ use Rattle.allocation.specs.declared.wheels.Wheel as Memory
 abbrev pub wheelOf : Memory.Wheel → Wheel
 wheelOf w = wheel-with (take (w .len) (w .seats)) (w .used)
 
+-- where a dealing stands, by the wheel, the table of interests and the quantity left
 abbrev pub stageOf : Memory.Wheel → List ℕ → ℕ → Stage
 stageOf w interests left = record { wheel = wheelOf w; interests = amounts interests; quantity = left }

@@ -7,10 +7,12 @@ use Prim.Native.Nat.{ℕ, _+_, _≤_, _<_}
 use lib.Dec.{eqb, ltb}
 use Rattle.std.specs.shelf.Lists.{kept-by}
 
+-- each seat is the number of its participant; used is the first seat's
 pub record Wheel : Type 0 where
   pub seats : List ℕ
   pub used : ℕ
 
+-- the wheel with these seats and this used number
 abbrev pub wheel-with : List ℕ → ℕ → Wheel
 wheel-with seats used = record { seats = seats; used = used }
 
@@ -24,10 +26,12 @@ abbrev pub first-seat : List ℕ → ℕ
 first-seat [] = 0
 first-seat (p ∷ ps) = p
 
+-- whether p has the first seat
 abbrev pub has-first-seat : ℕ → List ℕ → Bool
 has-first-seat p [] = false
 has-first-seat p (x ∷ xs) = eqb p x
 
+-- whether nobody sits
 abbrev pub no-seat : List ℕ → Bool
 no-seat [] = true
 no-seat (p ∷ ps) = false
@@ -49,6 +53,7 @@ first-stays stays (x ∷ xs) = stays x
 abbrev pub retain : (ℕ → Bool) → Wheel → Wheel
 retain stays w = wheel-with (kept-by stays (w .seats)) (cond (first-stays stays (w .seats)) (w .used) 0)
 
+-- everyone but p
 abbrev pub other-than : ℕ → ℕ → Bool
 other-than p x = not (eqb p x)
 
@@ -61,8 +66,3 @@ lose-seat w p = retain (other-than p) w
 abbrev pub first-served : ℕ → Bool → List ℕ → ℕ → Wheel
 first-served R kept [] u = wheel-with [] 0
 first-served R kept (p ∷ ps) u = cond kept (cond (eqb u R) (wheel-with (ps ++ (p ∷ [])) 0) (wheel-with (p ∷ ps) u)) (wheel-with ps 0)
-
--- participants from 1 to 24, each with one seat at most
-pub record Once-each (seats : List ℕ) : Type 0 where
-  pub once : (k : ℕ) → seats-of k seats ≤ 1
-  pub known : (k : ℕ) → 0 < seats-of k seats → (0 < k) × (k < 25)

@@ -87,7 +87,7 @@ pub(crate) fn by_time<G: Grouping, C: Claimed>(
     }
 }
 
-/// Each claim in order takes what it can of one quantity.
+/// By time: each claim in order takes what it can of one quantity.
 pub fn in_order<C: Claimed>(quantity: u32, claims: &[C], shares: &mut [u32])
     requires { ⌜ length (now shares) ≡ length (now claims) ⌝ }
     ensures { λ _. ⌜ now (shares .exit) ≡ shares-in-order quantity (map (λ c. claim c .size) (now (claims .entry))) ⌝ }

@@ -57,7 +57,7 @@ pub impl Dealing for Time as TimeDealing {
         shares: &mut [u32],
     ) {
         in_order(quantity, claims, shares);
-        wheel.settle(claims, shares);
+        wheel.lose_seats_without_interest(claims, shares);
     }
 }
 

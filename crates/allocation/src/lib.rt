@@ -22,4 +22,5 @@ pub use prices::BuyersRanking;
 pub use prices::Ranking;
 pub use prices::Sellers;
 pub use prices::SellersRanking;
+pub use prices::letters;
 pub use wheels::Wheel;

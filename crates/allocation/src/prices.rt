@@ -3,8 +3,7 @@ ghost use mathlib.Core.Path.{_≡_};
 ghost use mathlib.Core.Bool.{Bool};
 ghost use mathlib.Core.Logic.{_⊎_};
 ghost use Prim.Native.Nat.{ℕ};
-ghost use lib.Dec.{leb};
-ghost use Rattle.allocation.specs.Rankings.{TotalOrder};
+ghost use Rattle.allocation.specs.Rankings.{TotalOrder, higher-is-better, lower-is-better, buyers-letter, sellers-letter};
 
 /// A total order on prices, and the letter of the side that it is for.
 pub trait Ranking {
@@ -19,7 +18,7 @@ pub trait Ranking {
 
     law ordered: { TotalOrder good };
 
-    law lettered: { (initial ≡ 66) ⊎ (initial ≡ 83) };
+    law lettered: { (initial ≡ buyers-letter) ⊎ (initial ≡ sellers-letter) };
 
     /// The letter.
     fn initial() -> char
@@ -48,9 +47,9 @@ pub struct Sellers;
 pub impl Ranking for Buyers as BuyersRanking {
     const LETTER: char = 'B';
 
-    ghost good = { λ a b. leb b a };
+    ghost good = { higher-is-better };
 
-    ghost initial = { 66 };
+    ghost initial = { buyers-letter };
 
     fn initial() -> char {
         Self::LETTER
@@ -64,9 +63,9 @@ pub impl Ranking for Buyers as BuyersRanking {
 pub impl Ranking for Sellers as SellersRanking {
     const LETTER: char = 'S';
 
-    ghost good = { λ a b. leb a b };
+    ghost good = { lower-is-better };
 
-    ghost initial = { 83 };
+    ghost initial = { sellers-letter };
 
     fn initial() -> char {
         Self::LETTER
@@ -75,4 +74,11 @@ pub impl Ranking for Sellers as SellersRanking {
     fn at_least(a: u32, b: u32) -> bool {
         a <= b
     }
+}
+
+/// The constants are the letters that the rankings tell.
+pub fn letters() -> (char, char)
+    ensures { λ r. ⌜ r ≡ (buyers-letter, sellers-letter) ⌝ }
+{
+    (Buyers::LETTER, Sellers::LETTER)
 }

@@ -13,9 +13,10 @@ ghost use Rattle.allocation.specs.Memory.{wheelOf, stageOf};
 use super::Claimed;
 use super::Wheel;
 use crate::claims::draw;
+use crate::wheels::SEATS;
 
 /// Participants are numbered from 1 to 24, so that a table by participant has 25 places.
-pub(crate) const PLACES: usize = 25;
+pub(crate) const PLACES: usize = SEATS + 1;
 
 /// Adds `n` to the place `k`.
 fn add(table: &mut [u32; PLACES], k: usize, n: u32)
@@ -111,14 +112,15 @@ fn whole_laps(
     ensures same { λ _. ⌜ ((p : ℕ) → amounts (now (taken .exit)) p + amounts (now (interests .exit)) p ≡ amounts (now (taken .entry)) p + amounts (now (interests .entry)) p) ⌝ }
     ensures most { λ r. ⌜ r ≤ left ⌝ }
 {
-    let n = wheel.len() as u32;
+    let seats = wheel.seats();
+    let n = seats.len() as u32;
     let most = left / lot / n;
     if wheel.used() > 0 || most == 0 {
         return left;
     }
-    let least = least_interest(wheel.seats(), interests);
+    let least = least_interest(seats, interests);
     let each = most.min(least.saturating_sub(1) / lot) * lot;
-    give_each(wheel.seats(), interests, taken, each);
+    give_each(seats, interests, taken, each);
     left - each * n
 }
 
@@ -141,14 +143,14 @@ fn deal_on(
 {
     if wait == 0 {
         let rest = whole_laps(wheel, lot, interests, taken, left);
-        return (rest, wheel.len());
+        return (rest, wheel.seats().len());
     }
     (one_turn(wheel, lot, interests, taken, left), wait - 1)
 }
 
 /// Turn by turn until nothing is left to deal or no seat is left: what each has taken.
-/// A lap of turns takes a seat away or ends the dealing, once no whole lap can be dealt at once,
-/// so that the work grows with the seats and not with the quantity.
+/// Once no whole lap can be dealt at once, a lap of turns takes a seat away or ends the dealing,
+/// so that the work grows with the seats and not with the quantity. A turn carried over costs one lap more.
 pub(crate) fn take_turns(
     wheel: &mut Wheel,
     lot: u32,

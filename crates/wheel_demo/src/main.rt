@@ -73,7 +73,7 @@ fn turns_carried_over(rt: &LibcRuntime) -> Result<(), AnyError> {
 fn seat_lost(rt: &LibcRuntime, participant: u8) -> Result<(), AnyError> {
     println!(
         rt,
-        "\nSeats 5, 7, 9 with used 40, and {participant} leaves, by parity"
+        "\nSeats 5, 7, 9 with used 40, and {participant} gives up its claims, by parity"
     )?;
     let mut queue = open(rt, Parity, &five_claims())?;
     deal(rt, &mut queue, 40)?;
@@ -94,7 +94,7 @@ fn same_claims_by_time(rt: &LibcRuntime) -> Result<(), AnyError> {
 
 /// Claims that no queue takes change nothing.
 fn refused_claims(rt: &LibcRuntime) -> Result<(), AnyError> {
-    println!(rt, "\nClaims that are refused")?;
+    println!(rt, "\nClaims that no queue takes: answers 2 and 3 of an order")?;
     let mut queue = open(rt, Parity, &[claim(24, 500_000)])?;
     add(rt, &mut queue, claim(0, 100))?;
     add(rt, &mut queue, claim(25, 100))?;

@@ -63,6 +63,6 @@ pub(crate) fn leave<D: Dealing>(
     participant: u8,
 ) -> Result<(), AnyError> {
     queue.leave(participant);
-    println!(rt, "  Participant {participant} leaves.")?;
+    println!(rt, "  Participant {participant} gives up its claims.")?;
     show_wheel(rt, &queue.wheel())
 }

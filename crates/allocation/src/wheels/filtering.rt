@@ -87,7 +87,7 @@ impl Wheel {
 
     /// Every participant without interest left loses its seat, once the claims have had their shares.
     /// A claim past the last share has all of its size left.
-    pub fn settle<C: Claimed>(&mut self, claims: &[C], shares: &[u32])
+    pub fn lose_seats_without_interest<C: Claimed>(&mut self, claims: &[C], shares: &[u32])
         requires known { ⌜ All (λ c. claim c .participant < 25) (now claims) ⌝ }
         requires fits { ⌜ total (map claim (now claims)) < 2 ^ 32 ⌝ }
         ensures { λ _. ⌜ wheelOf (now (self .exit)) ≡ retain (λ p. ltb 0 (interest p (claims-left (map claim (now (claims .entry))) (now (shares .entry))))) (wheelOf (now (self .entry))) ⌝ }

@@ -28,17 +28,10 @@ impl Wheel {
         self.len == 0
     }
 
-    /// How many have a seat.
-    pub fn len(&self) -> usize
-        ensures count { λ r. ⌜ r ≡ length (wheelOf (now (self .entry)) .seats) ⌝ }
-        ensures most { λ r. ⌜ r ≤ 24 ⌝ }
-    {
-        self.seats().len()
-    }
-
     /// The seats from the pointer onward.
     pub fn seats(&self) -> &[u8]
-        ensures { λ r. ⌜ now r ≡ wheelOf (now (self .entry)) .seats ⌝ }
+        ensures seats { λ r. ⌜ now r ≡ wheelOf (now (self .entry)) .seats ⌝ }
+        ensures most { λ r. ⌜ length (now r) ≤ 24 ⌝ }
     {
         &self.seats[0..self.len]
     }

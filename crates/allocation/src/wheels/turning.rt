@@ -20,8 +20,7 @@ impl Wheel {
     /// The first seat goes last.
     fn rotate(&mut self)
         requires { ⌜ 0 < length (wheelOf (now self) .seats) ⌝ }
-        ensures after { λ _. ⌜ wheelOf (now (self .exit)) ≡ wheel-with (drop 1 (wheelOf (now (self .entry)) .seats) ++ take 1 (wheelOf (now (self .entry)) .seats)) 0 ⌝ }
-        ensures len { λ _. ⌜ now (self .exit) .len ≡ now (self .entry) .len ⌝ }
+        ensures { λ _. ⌜ wheelOf (now (self .exit)) ≡ wheel-with (drop 1 (wheelOf (now (self .entry)) .seats) ++ take 1 (wheelOf (now (self .entry)) .seats)) 0 ⌝ }
     {
         let n = self.len;
         self.seats[0..n].rotate_left(1);
@@ -33,8 +32,10 @@ impl Wheel {
         requires { ⌜ 0 < length (wheelOf (now self) .seats) ⌝ }
         ensures { λ _. ⌜ wheelOf (now (self .exit)) ≡ wheel-with (drop 1 (wheelOf (now (self .entry)) .seats)) 0 ⌝ }
     {
-        self.rotate();
-        self.len -= 1;
+        let n = self.len;
+        self.seats.copy_within(1..n, 0);
+        self.len = n - 1;
+        self.used = 0;
     }
 
     /// The first seat's turn: the shares that it takes, and the shares left to deal.

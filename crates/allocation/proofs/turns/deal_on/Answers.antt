@@ -1,5 +1,6 @@
-use mathlib.Core.Path.{_≡_, _∙_}
+use mathlib.Core.Path.{_≡_, ap, _∙_}
 use Prim.Native.Nat.{_<_}
+use lib.ListN.{length}
 use native.Mathlib.Omega.{arith}
 use Rattle.allocation.specs.Memory.{stageOf}
 use Rattle.allocation.proofs.Steps.{some-seat}
@@ -12,7 +13,7 @@ returns-then-wait-eq0 c =
     record {
       on = c .whole-laps-rest .ensures .on;
       same = c .whole-laps-rest .ensures .same;
-      falls = omega (arith, some, c .len .ensures .count);
+      falls = omega (arith, some, ap length (c .seats .ensures .seats));
     }
 
 pub returns : need.returns

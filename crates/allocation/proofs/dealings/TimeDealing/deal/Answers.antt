@@ -15,5 +15,5 @@ returns g c =
     let shares = c .in-order .ensures ∙ ap (shares-in-order (c .args .quantity)) (sym (map-map (λ x. x .size) f (c .args .claims .now))) in
     record {
       shares = shares;
-      wheel = c .settle .ensures ∙ ap (λ xs. retain (λ p. ltb 0 (interest p (claims-left cs xs))) (wheelOf (c .args .wheel .now))) shares;
+      wheel = c .lose-seats-without-interest .ensures ∙ ap (λ xs. retain (λ p. ltb 0 (interest p (claims-left cs xs))) (wheelOf (c .args .wheel .now))) shares;
     }

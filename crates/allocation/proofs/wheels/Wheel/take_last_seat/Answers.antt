@@ -5,8 +5,8 @@ use Prim.Native.Nat.{ℕ, _<_, _+_}
 use lib.ListN.{length, take, set}
 use borrow.Author.Needs.{needs}
 use Rattle.std.proofs.shelf.Lists.{take-more-set, length-take-le}
-use Rattle.allocation.specs.Wheels.{wheel-with, Once-each}
-use Rattle.allocation.proofs.Room.{room, last-seat}
+use Rattle.allocation.specs.Wheels.{wheel-with}
+use Rattle.allocation.proofs.Room.{Once-each, room, last-seat}
 use Rattle.allocation.proofs.wheels.Wheel.take_last_seat.Needs as need
 
 module _ (c : need.After-way-told·1) where
@@ -30,7 +30,7 @@ ghost-self c =
     let long : length (w .seats) ≡ 24 = search needs in
     let more = take-more-set (w .seats) (w .len) p (omega (arith, space c)) in
     let s : Once-each (take (w .len + 1) (set (w .seats) (w .len) p)) = subst Once-each (sym more) (last-seat (take (w .len) (w .seats)) p (c .pre .known .0) (c .pre .known .1) (c .pre .away) (sits c)) in
-    (omega (arith, space c), (s .once, (s .known, tt)))
+    (omega (arith, space c), (s .once, ((λ e. absurd (omega arith)), (s .known, tt))))
 
 pub returns : need.returns
 returns c =

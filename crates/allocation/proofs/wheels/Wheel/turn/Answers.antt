@@ -20,7 +20,7 @@ returns c =
       left = refl;
       after = elim (c .if-taken-interest .came) [
         | then-taken-interest v ↦ ap wheelOf (v .self-is) ∙ v .lose-first .ensures ∙ served-lost _ _ s _ (c .pre .seated) (le-ltb 0 (c .args .interest - x) (omega arith))
-        | else-taken-interest·then-used-lot v ↦ ap wheelOf (v .self-is) ∙ v .rotate .ensures .after ∙ served-full _ _ s _ (c .pre .seated) (lt-ltb 0 (c .args .interest - x) (omega arith)) (v .if-used-lot .taken)
+        | else-taken-interest·then-used-lot v ↦ ap wheelOf (v .self-is) ∙ v .rotate .ensures ∙ served-full _ _ s _ (c .pre .seated) (lt-ltb 0 (c .args .interest - x) (omega arith)) (v .if-used-lot .taken)
         | else-taken-interest·else-used-lot v ↦ ap wheelOf (v .self-is) ∙ served-part _ _ s _ (c .pre .seated) (lt-ltb 0 (c .args .interest - x) (omega arith)) (v .if-used-lot .left)
       ];
     }
