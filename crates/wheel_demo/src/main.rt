@@ -69,7 +69,7 @@ fn turns_carried_over(rt: &LibcRuntime) -> Result<(), AnyError> {
     deal(rt, &mut queue, 100)
 }
 
-/// One leaves while the first seat, participant 5's, has used 40.
+/// One gives up its claims while the first seat, participant 5's, has used 40.
 fn seat_lost(rt: &LibcRuntime, participant: u8) -> Result<(), AnyError> {
     println!(
         rt,
@@ -94,7 +94,10 @@ fn same_claims_by_time(rt: &LibcRuntime) -> Result<(), AnyError> {
 
 /// Claims that no queue takes change nothing.
 fn refused_claims(rt: &LibcRuntime) -> Result<(), AnyError> {
-    println!(rt, "\nClaims that no queue takes: answers 2 and 3 of an order")?;
+    println!(
+        rt,
+        "\nClaims that no queue takes: answers 2 and 3 of an order"
+    )?;
     let mut queue = open(rt, Parity, &[claim(24, 500_000)])?;
     add(rt, &mut queue, claim(0, 100))?;
     add(rt, &mut queue, claim(25, 100))?;
