@@ -47,6 +47,20 @@ def entry(rnd, number, lot):
     return ("enter", rnd.choice("BS"), kind, number, participant, quantity, display, price)
 
 
+def join_play(rnd, number, lot):
+    """A reserve order whose later shown part alone is marked, and trades: what is left of it joins the hidden part."""
+    side = rnd.choice("BS")
+    other, price = ("S", 100_300) if side == "B" else ("B", 99_700)
+    display = rnd.choice([1, 1, 2]) * lot
+    return [
+        ("quote", price if side == "B" else 0, price if side == "S" else 0),
+        ("enter", side, "R", number + 1, rnd.randint(1, 6), display + rnd.choice([lot, 5 * lot // 2, 4 * lot]), display, price),
+        ("quote", 0, 0),
+        ("enter", other, "I", number + 2, rnd.randint(1, 6), display - lot + 6 * lot // 10, 0, price),
+        ("enter", other, "I", number + 3, rnd.randint(1, 6), display - lot + 7 * lot // 10, 0, price),
+    ]
+
+
 def session(seed, calls):
     """(lot, ranking letter, dealing, [(room, call)])"""
     rnd = random.Random(seed)
@@ -65,6 +79,9 @@ def session(seed, calls):
             kind = rnd.choice("LNR")
             asks.append((400, ("enter", side, kind, number, rnd.randint(1, 24), 3 * lot, lot if kind == "R" else 0, price)))
     for _ in range(calls):
+        if rnd.random() < 0.05:
+            asks += [(400, call) for call in join_play(rnd, number, lot)]
+            number += 3
         room, z = (399 if rnd.random() < 0.01 else 400), rnd.random()
         near = lambda: rnd.randint(max(1, number - 8), number + 1)
         if z < 0.05: call = ("quote", rnd.choice([0, 99_800, 99_900, 100_000, 100_000_000]), rnd.choice([0, 100_000, 100_100, 100_200]))

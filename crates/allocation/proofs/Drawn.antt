@@ -7,11 +7,11 @@ use Prim.Native.Nat.{ℕ, _+_, _-_, _≤_, _<_, min}
 use native.Mathlib.Omega.{arith}
 use lib.Dec.{eqb}
 use Rattle.std.specs.shelf.Lists.{All}
-use Rattle.std.proofs.shelf.Elements.{all-getD, all-map}
+use Rattle.std.proofs.shelf.Elements.{all-getD}
 use lib.ListN.{length, getD, set, take, drop}
 use Rattle.std.proofs.shelf.Lists.{append-assoc, take-more-set, drop-more, getD-set-same, getD-set-other}
 use Rattle.std.proofs.shelf.Tests.{cases-eq, eq-eqb, ne-eqb}
-use Rattle.allocation.specs.ByTime.{less, time-shares, shares-in-order}
+use Rattle.allocation.specs.ByTime.{less, time-shares}
 use Rattle.allocation.specs.Amounts.{amounts}
 
 pub amounts-less : (table : List ℕ) (k n : ℕ) → k < length table → (j : ℕ) → amounts (set table k (getD table k 0 - n)) j ≡ less (amounts table) k n j
@@ -49,8 +49,3 @@ one-group-same (c ∷ cs) f g zeros e =
     let here : f (c .0) ≡ g (c .0) = ap f (zeros .0) ∙ e ∙ sym (ap g (zeros .0)) in
     let next : less f (c .0) (c .1) 0 ≡ less g (c .0) (c .1) 0 = ap (λ n. cond (eqb 0 (c .0)) (n - c .1) n) e in
     ap (λ n. min n (c .1) ∷ time-shares (less f (c .0) (c .1)) cs) here ∙ ap (λ l. min (g (c .0)) (c .1) ∷ l) (one-group-same cs (less f (c .0) (c .1)) (less g (c .0) (c .1)) (zeros .1) next)
-
--- one size more in one group: it takes what it can, and the others share what is left
-pub in-order-more : (q n : ℕ) (ns : List ℕ) → shares-in-order q (n ∷ ns) ≡ min q n ∷ shares-in-order (q - n) ns
-in-order-more q n ns =
-    ap (λ l. min q n ∷ l) (one-group-same (map (λ m. (0, m)) ns) (less (λ _. q) 0 n) (λ _. q - n) (all-map (λ c. c .0 ≡ 0) (λ m. (0, m)) ns (everyone (λ m. _≡_ {A = ℕ} 0 0) (λ m. refl) ns)) refl)

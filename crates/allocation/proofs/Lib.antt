@@ -2,9 +2,11 @@ pub mod Counts
 pub mod Seating
 pub mod Shares
 pub mod Turning
+pub mod Slack
 pub mod Leading
 pub mod TurnRuns
 pub mod Drawn
+pub mod InOrder
 pub mod Arrays
 pub mod Tables
 pub mod Stages

@@ -10,11 +10,13 @@ use Rattle.std.proofs.shelf.Tests.{cases-eq, eq-eqb, ne-eqb, cond-both, or-part
 use Rattle.allocation.specs.Wheels.{Wheel, wheel-with, seats-of, has-first-seat, first-served, first-seat, no-seat}
 use Rattle.allocation.specs.ByTime.{less}
 use Rattle.allocation.specs.Turns.{Stage, turn-share, turn, over, turns}
-use Rattle.allocation.specs.Dealings.{Seated, interest, share-of, parity-end, parity}
-use Rattle.allocation.specs.Leads.{Event, takes-turn, after, event-share, run, shares-taken, Legal-run, Is-turn, Run-of-turns, Parity-is-a-run-of-turns}
+use Rattle.allocation.specs.Dealings.{Seated, interest, share-of, claims-left, parity-end, parity}
+use Rattle.allocation.specs.Leads.{Event, takes-turn, after, event-share, run, shares-taken, Legal-run, Keeps-seat, Sound, Is-turn, Run-of-turns, Parity-is-a-run-of-turns}
 use Rattle.allocation.specs.declared.claims.Claim.{Claim}
 use Rattle.allocation.proofs.Stages.{turns-seated}
-use Rattle.allocation.proofs.Turning.{turn-seated, turn-takes, less-falls, turns-falls, own-given}
+use Rattle.allocation.proofs.Slack.{slack-of}
+use Rattle.allocation.proofs.Leading.{run-slack}
+use Rattle.allocation.proofs.Turning.{parity-lawful, turn-seated, turn-takes, less-falls, turns-falls, own-given}
 
 turn-event : (R p : ℕ) (r : Stage) (kept : Bool) → no-seat (r .wheel .seats) ≡ false → event-share p (r .wheel) (takes-turn (turn-share R r) kept) ≡ r .interests p - turn R r .interests p
 turn-event R p r kept go = at (r .wheel .seats) go
@@ -49,3 +51,19 @@ pub parity-run : Parity-is-a-run-of-turns
 parity-run q w R cs s =
     let t = turns-run R q (record { wheel = w; interests = λ p. interest p cs; quantity = q }) s in
     record { events = t .events; only = t .only; legal = t .legal; ends = t .ends; shares = λ p. t .shares p ∙ sym (own-given q w R cs s p); stays = t .stays }
+
+-- what a dealing by parity gives r and p, if p keeps its seat
+pub parity-slack : (q : ℕ) (w : Wheel) (lot : ℕ) (cs : List Claim) (p r : ℕ) → (p ≡ r → ⊥) → Seated lot w (λ p. interest p cs)
+    → 0 < interest p (claims-left cs (parity q w lot cs .shares))
+    → share-of r cs (parity q w lot cs .shares) + slack-of p r lot w ≤ share-of p cs (parity q w lot cs .shares) + slack-of p r lot (parity q w lot cs .wheel)
+parity-slack q w lot cs p r ne s kept =
+    let t : Run-of-turns lot w (parity q w lot cs .wheel) (λ p. share-of p cs (parity q w lot cs .shares)) = parity-run q w lot cs s in
+    let sound : Sound lot w = (s .below, λ k. omega (arith, s .once k)) in
+    let stays : Keeps-seat lot p w (t .events) = t .stays p (omega (arith, parity-lawful q w lot cs s .seats .once p)) in
+    omega (
+      arith,
+      run-slack p r lot ne w (t .events) sound (t .legal) stays,
+      t .shares p,
+      t .shares r,
+      ap (slack-of p r lot) (t .ends),
+    )

@@ -11,7 +11,7 @@ use Rattle.allocation.specs.declared.claims.Claim.{Claim}
 use Rattle.rules.specs.declared.orders.Part.{Part}
 use Rattle.rules.specs.Quantities.{of-order, claims}
 use Rattle.rules.specs.Changes.{lowered}
-use Rattle.rules.proofs.InOrder.{Under}
+use Rattle.allocation.proofs.InOrder.{Under}
 
 abbrev pub AtMost : List ℕ → List Part → Type 0
 AtMost [] ps = Unit {0}

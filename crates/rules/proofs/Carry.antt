@@ -36,7 +36,7 @@ use Rattle.rules.proofs.Ranked.{Ranked, Still, sorted-side, on-ranked, join-hi
 use Rattle.rules.proofs.Listing.{Own-listed}
 use Rattle.rules.proofs.Owned.{orderly-mine}
 use Rattle.rules.proofs.Tending.{orderly-side, Midway, midway-renewed}
-use Rattle.rules.proofs.Slack.{slack-of}
+use Rattle.allocation.proofs.Slack.{slack-of}
 use Rattle.rules.proofs.Leads.{lose-slack, put-slack, MineAt}
 use Rattle.rules.proofs.Spots.{good-at, mine-at, on-price-at, rejoined-interest}
 

@@ -34,7 +34,7 @@ use Rattle.rules.specs.LeadLaw.{level-at, older, queue-in, faces, gained, trad
 use Rattle.rules.specs.Invariants.{Sound-level}
 use Rattle.rules.proofs.Fits.{side-good}
 use Rattle.rules.proofs.Rulings.{rule-did}
-use Rattle.rules.proofs.Slack.{slack-of, slack-le}
+use Rattle.allocation.proofs.Slack.{slack-of, slack-le}
 use Rattle.rules.proofs.Ranked.{effect-ranked}
 use Rattle.rules.proofs.Leads.{lose-slack}
 use Rattle.rules.proofs.Spots.{good-at, take-off-at, unmarked-wheel, kept-at}

@@ -33,7 +33,8 @@ use Rattle.rules.proofs.Amounts.{AtMost, interest-lowered}
 use Rattle.rules.proofs.Trades.{fair-shares, with-good}
 use Rattle.rules.proofs.Members.{sum-of-append}
 use Rattle.rules.proofs.Parts.{Steady, all-lowered}
-use Rattle.rules.proofs.Slack.{slack-of, retain-slack, join-slack, parity-slack}
+use Rattle.allocation.proofs.Slack.{slack-of, retain-slack, join-slack}
+use Rattle.allocation.proofs.TurnRuns.{parity-slack}
 use Rattle.allocation.proofs.Turning.{parity-lawful}
 
 -- ## Queues

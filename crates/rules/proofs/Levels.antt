@@ -21,7 +21,7 @@ use Rattle.rules.specs.TakingOff.{take-off-side}
 use Rattle.rules.specs.Reserve.{raised, join-hidden, runs-low, shows-two, show-anew}
 use Rattle.rules.specs.Invariants.{Sound-level, Sound-queue}
 use Rattle.rules.proofs.Seats.{nobody-seated}
-use Rattle.rules.proofs.InOrder.{in-order-under, sum-in-order}
+use Rattle.allocation.proofs.InOrder.{in-order-under, sum-in-order}
 use Rattle.rules.proofs.Queues.{last-under, sum-pieces, lose-sound, lose-of, put-sound, put-of, take-off-level-good, take-off-level-of}
 use Rattle.allocation.proofs.Seating.{seated-same}
 

@@ -1,4 +1,3 @@
-pub mod InOrder
 pub mod Members
 pub mod Seats
 pub mod Amounts
@@ -29,7 +28,6 @@ pub mod Placing
 pub mod Upkeep
 pub mod Remainder
 pub mod Kept
-pub mod Slack
 pub mod Leads
 pub mod Spots
 pub mod Owned

@@ -18,7 +18,7 @@ use Rattle.rules.specs.Changes.{put, lose, put-shown, put-hidden}
 use Rattle.rules.specs.TakingOff.{take-off-level}
 use Rattle.rules.specs.Reserve.{runs-low, show-anew, raised, join-hidden, shows-two}
 use Rattle.rules.specs.Entering.{two-parts, shown-part, hidden-part}
-use Rattle.rules.proofs.InOrder.{in-order-under, sum-in-order}
+use Rattle.allocation.proofs.InOrder.{in-order-under, sum-in-order}
 use Rattle.rules.proofs.Queues.{lose-of, put-of, last-under, sum-pieces, take-off-hidden-of, take-off-shown-of}
 use Rattle.rules.proofs.Effects.{unmark-of}
 

@@ -22,7 +22,7 @@ use Rattle.rules.specs.TakingOff.{take-off-level}
 use Rattle.rules.specs.Invariants.{Sound-queue, Sound-level}
 use Rattle.rules.proofs.Amounts.{AtMost, hit, lowered-of, interest-lowered, interest-lower-le}
 use Rattle.rules.proofs.Seats.{seated-settled, seated-joined}
-use Rattle.rules.proofs.InOrder.{Under, in-order-under, in-order-append, length-in-order, sum-in-order}
+use Rattle.allocation.proofs.InOrder.{Under, in-order-under, in-order-append, length-in-order, sum-in-order}
 
 -- ## Amounts under sizes
 

@@ -25,7 +25,7 @@ use Rattle.rules.specs.Refusals.{none}
 use Rattle.rules.specs.LeadLaw.{level-at, queue-in, owns}
 use Rattle.rules.specs.Invariants.{Sound-level, prices, Best-first}
 use Rattle.rules.proofs.Queues.{last-under, under-at-most}
-use Rattle.rules.proofs.InOrder.{Under}
+use Rattle.allocation.proofs.InOrder.{Under}
 use Rattle.rules.proofs.Levels.{empty-good}
 use Rattle.rules.proofs.Chains.{not-itself}
 use Rattle.rules.proofs.Ranked.{Still, better-chain}

@@ -22,7 +22,7 @@ use Rattle.rules.specs.Trading.{rows-of, dealing-shares, step-shares, taken, s
 use Rattle.rules.specs.OrderLaw.{of-step}
 use Rattle.rules.specs.Invariants.{Sound-queue}
 use Rattle.rules.proofs.Amounts.{AtMost, within-at-most}
-use Rattle.rules.proofs.InOrder.{Under, in-order-under, sum-in-order}
+use Rattle.allocation.proofs.InOrder.{Under, in-order-under, sum-in-order}
 use Rattle.rules.proofs.Trades.{lowered-none}
 
 abbrev pub amount : List Part → ℕ

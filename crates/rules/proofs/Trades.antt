@@ -25,7 +25,7 @@ use Rattle.rules.specs.Trading.{rows-of, dealt, setter-shares, dealing-shares,
 use Rattle.rules.specs.Runs.{returned-in, traded-in}
 use Rattle.rules.specs.Invariants.{Sound-queue, Sound-level}
 use Rattle.rules.proofs.Amounts.{AtMost, hit, lowered-of, interest-lowered, within-at-most, mask-at-most}
-use Rattle.rules.proofs.InOrder.{in-order-under, sum-in-order}
+use Rattle.allocation.proofs.InOrder.{in-order-under, sum-in-order}
 use Rattle.rules.proofs.Members.{sum-of-append}
 use Rattle.rules.proofs.Queues.{positive-lowered, lose-sound}
 use Rattle.allocation.proofs.Seating.{seated-same}

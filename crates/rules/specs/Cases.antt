@@ -19,15 +19,16 @@ use Rattle.rules.specs.declared.answers.Answer.{Answer}
 use Rattle.rules.specs.declared.answers.Answer.the-variants.{Accepted}
 use Rattle.rules.specs.declared.answers.Row.{Row}
 use Rattle.rules.specs.declared.answers.Row.the-variants.{Trade, GivenBack}
-use Rattle.rules.specs.Books.{Queue, Level, Ranking, Book, part, queue, level, no-seats}
+use Rattle.rules.specs.Books.{Queue, Level, Ranking, Book, part, queue, level, no-seats, ranked-by}
 use Rattle.rules.specs.Quantities.{claim}
 use Rattle.rules.specs.Trading.{dealt}
 use Rattle.rules.specs.Rules.{steps, new-book}
 use Rattle.rules.specs.Runs.{Ask, Event, run, final}
+use Rattle.allocation.specs.Rankings.{buyers-letter, higher-is-better}
 
 -- buyers rank higher prices better
 abbrev pub buyers : Ranking
-buyers = record { letter = Buy; good = λ a b. leb b a }
+buyers = ranked-by buyers-letter higher-is-better
 
 -- a call with room for 400 rows
 abbrev pub ask : Call → Ask

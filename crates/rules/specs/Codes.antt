@@ -12,11 +12,12 @@ use Rattle.rules.specs.declared.answers.Refusal.{Refusal}
 use Rattle.rules.specs.declared.answers.Refusal.the-variants as Refusal
 use Rattle.rules.specs.declared.answers.Answer.{Answer}
 use Rattle.rules.specs.declared.answers.Answer.the-variants.{Accepted, Refused}
+use Rattle.allocation.specs.Rankings.{buyers-letter, sellers-letter}
 
 -- B, S
 abbrev pub side-letter : Side → ℕ
-side-letter Buy = 66
-side-letter Sell = 83
+side-letter Buy = buyers-letter
+side-letter Sell = sellers-letter
 
 -- L, N, R, I, M
 abbrev pub kind-letter : Kind → ℕ

@@ -1,21 +1,18 @@
 -- How much more than p another participant r may yet take on a wheel, as it stands: no event lets it fall. Assumes nothing.
 use mathlib.Core.Path.{_≡_, refl, sym, ap, _∙_, subst}
-use mathlib.Core.Bool.{Bool, true, false, cond, false≢true}
+use mathlib.Core.Bool.{Bool, true, false, cond, not, false≢true}
 use mathlib.Core.List.{List, [], _∷_, _++_}
 use Prim.Native.Nat.{ℕ, _+_, _-_, _≤_, _<_}
 use native.Mathlib.Omega.{arith}
 use lib.Dec.{eqb, ltb}
-use Rattle.std.specs.shelf.Lists.{All, kept-by}
+use Rattle.std.specs.shelf.Lists.{kept-by}
 use Rattle.std.proofs.shelf.Ways.{tells}
 use Rattle.std.proofs.shelf.Tests.{eqb-true}
-use Rattle.allocation.specs.Wheels.{Wheel, wheel-with, seats-of, first-stays, retain, take-last-seat, ensure-seat, first-served}
-use Rattle.allocation.specs.Dealings.{Seated, interest, share-of, claims-left, parity}
-use Rattle.allocation.specs.Leads as Leads
-use Rattle.allocation.specs.declared.claims.Claim.{Claim}
-use Rattle.allocation.proofs.Turning.{parity-lawful}
-use Rattle.allocation.proofs.Leading.{after-sound}
-use Rattle.allocation.proofs.TurnRuns.{parity-run}
+use Rattle.allocation.specs.Wheels.{Wheel, wheel-with, seats-of, first-stays, retain, other-than, take-last-seat, ensure-seat, first-served}
+use Rattle.allocation.specs.Leads.{Event, takes-turn, takes-seat, loses-seat, after, event-share, Legal, Sound}
+use Rattle.allocation.proofs.Seating.{seats-kept}
 
+-- p first: what is left of its lot; r first: what it has used; r ahead of p: nothing; else a lot
 abbrev pub slack : ℕ → ℕ → ℕ → ℕ → List ℕ → ℕ
 slack p r lot u [] = lot
 slack p r lot u (s ∷ ss) = cond (eqb r s) u (cond (eqb p s) (lot - u) (slack p r lot 0 ss))
@@ -92,8 +89,8 @@ slack-last-other p r lot s [] h k = rw (h, k)
 slack-last-other p r lot s (x ∷ ss) h k = rw (slack-last-other p r lot s ss h k)
 
 turn-slack : (p r lot u x : ℕ) → (p ≡ r → ⊥) → (kept : Bool) (ss : List ℕ) → u + x ≤ lot → seats-of r ss ≤ 1 → seats-of p ss ≡ 1 → seats-of p (first-served lot kept ss (u + x) .seats) ≡ 1
-    → (let w : Wheel = wheel-with ss u in let e : Leads.Event = Leads.takes-turn x kept in let v : Wheel = first-served lot kept ss (u + x) in
-    Leads.event-share r w e + slack-of p r lot w ≤ Leads.event-share p w e + slack-of p r lot v)
+    → (let w : Wheel = wheel-with ss u in let e : Event = takes-turn x kept in let v : Wheel = first-served lot kept ss (u + x) in
+    event-share r w e + slack-of p r lot w ≤ event-share p w e + slack-of p r lot v)
 turn-slack p r lot u x ne kept [] le once here then = let no-way : ⊥ = omega arith in absurd no-way
 turn-slack p r lot u x ne kept (s ∷ ss) le once here then = go kept (eqb (u + x) lot) refl (eqb r s) refl (eqb p s) refl once here then
   where
@@ -111,35 +108,17 @@ turn-slack p r lot u x ne kept (s ∷ ss) le once here then = go kept (eqb (u + 
     go true true ef false ec false ed o h t = omega (arith, slack-last-other p r lot s ss ed ec)
     go true false ef false ec false ed o h t = rw (ec, ed) (omega arith)
 
-seat-now : (R p : ℕ) (w : Wheel) (es : List Leads.Event) → Leads.Keeps-seat R p w es → seats-of p (w .seats) ≡ 1
-seat-now R p w [] k = k
-seat-now R p w (e ∷ es) k = k .0
+-- ## Events
 
-turns-slack : (p r lot : ℕ) → (p ≡ r → ⊥) → (w : Wheel) (es : List Leads.Event) → All Leads.Is-turn es → Leads.Sound lot w → Leads.Legal-run lot w es → Leads.Keeps-seat lot p w es
-    → Leads.shares-taken lot r w es + slack-of p r lot w ≤ Leads.shares-taken lot p w es + slack-of p r lot (Leads.run lot w es)
-turns-slack p r lot ne w [] only s l k = omega arith
-turns-slack p r lot ne w (Leads.takes-turn x kept ∷ es) only s l k =
-    let v : Wheel = Leads.after lot w (Leads.takes-turn x kept) in
-    omega (
-      arith,
-      turn-slack p r lot (w .used) x ne kept (w .seats) (l .0 .1) (s .1 r) (k .0) (seat-now lot p v es (k .1)),
-      turns-slack p r lot ne v es (only .1) (after-sound lot w (Leads.takes-turn x kept) s (l .0)) (l .1) (k .1),
-    )
-turns-slack p r lot ne w (Leads.takes-seat q ∷ es) only s l k = absurd (only .0)
-turns-slack p r lot ne w (Leads.loses-seat q ∷ es) only s l k = absurd (only .0)
-
--- what a dealing by parity gives r and p, if p keeps its seat
-pub parity-slack : (q : ℕ) (w : Wheel) (lot : ℕ) (cs : List Claim) (p r : ℕ) → (p ≡ r → ⊥) → Seated lot w (λ p. interest p cs)
-    → 0 < interest p (claims-left cs (parity q w lot cs .shares))
-    → share-of r cs (parity q w lot cs .shares) + slack-of p r lot w ≤ share-of p cs (parity q w lot cs .shares) + slack-of p r lot (parity q w lot cs .wheel)
-parity-slack q w lot cs p r ne s kept =
-    let t : Leads.Run-of-turns lot w (parity q w lot cs .wheel) (λ p. share-of p cs (parity q w lot cs .shares)) = parity-run q w lot cs s in
-    let sound : Leads.Sound lot w = (s .below, λ k. omega (arith, s .once k)) in
-    let stays : Leads.Keeps-seat lot p w (t .events) = t .stays p (omega (arith, parity-lawful q w lot cs s .seats .once p)) in
-    omega (
-      arith,
-      turns-slack p r lot ne w (t .events) (t .only) sound (t .legal) stays,
-      t .shares p,
-      t .shares r,
-      ap (slack-of p r lot) (t .ends),
-    )
+-- over one event r takes no more than p and what the slack grows by, if p keeps its seat
+pub event-slack : (p r lot : ℕ) → (p ≡ r → ⊥) → (w : Wheel) (e : Event) → Sound lot w → Legal lot w e → seats-of p (w .seats) ≡ 1 → seats-of p (after lot w e .seats) ≡ 1
+    → event-share r w e + slack-of p r lot w ≤ event-share p w e + slack-of p r lot (after lot w e)
+event-slack p r lot ne w (takes-turn x kept) s l here then = turn-slack p r lot (w .used) x ne kept (w .seats) (l .1) (s .1 r) here then
+event-slack p r lot ne w (takes-seat x) s l here then = omega (arith, push-slack p r lot (w .used) x (w .seats) (omega arith))
+event-slack p r lot ne w (loses-seat x) s l here then = omega (arith, retain-slack p r lot (other-than x) w (s .1 r) (s .0) (stays (other-than x p) refl))
+  where
+    stays : (b : Bool) → other-than x p ≡ b → other-than x p ≡ true
+    stays true e = e
+    stays false e =
+        let gone : seats-of p (kept-by (other-than x) (w .seats)) ≡ 0 = seats-kept (other-than x) p (w .seats) ∙ ap (λ b. cond b (seats-of p (w .seats)) 0) e in
+        absurd (omega arith)
