@@ -16,6 +16,7 @@ pub use orders::Category;
 pub use orders::Kind;
 pub use orders::Order;
 pub use orders::Part;
+pub use orders::PartClaims;
 pub use orders::Side;
 pub use phases::Phase;
 pub use phases::Step;

@@ -1,6 +1,8 @@
 //! Orders and their parts.
 ghost use mathlib.Core.Path.{_≡_};
 ghost use Rattle.rules.specs.Codes.{side-letter, kind-letter, category-number};
+use allocation::Claim;
+use allocation::Claimed;
 
 /// The side of an order.
 #[derive(Clone, Copy)]
@@ -58,6 +60,18 @@ pub struct Part {
     pub quantity: u32,
     /// Whether it has the setter mark: it trades first at its price.
     pub marked: bool,
+}
+
+/// A part claims its quantity for its participant.
+pub impl Claimed for Part as PartClaims {
+    ghost claim = { λ p. record { participant = p .participant; size = p .quantity } };
+
+    fn claim(&self) -> Claim {
+        Claim {
+            participant: self.participant,
+            size: self.quantity,
+        }
+    }
 }
 
 impl Side {
