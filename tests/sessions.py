@@ -38,12 +38,12 @@ def entry(rnd, number, lot):
     price = 0 if kind == "M" else 100_000 + 100 * rnd.randint(-2, 2)
     participant = rnd.randint(1, 6)
     odd = rnd.random()
-    if odd < 0.02: display += 1
+    if odd < 0.02: display = rnd.choice([display + 1, 0, quantity - quantity % lot + lot])
     elif odd < 0.04: price += 50
     elif odd < 0.05: number = rnd.choice([0, 1_000_000])
-    elif odd < 0.06: participant = rnd.choice([0, 25])
-    elif odd < 0.07: quantity = rnd.choice([0, 500_001])
-    elif odd < 0.075: price = rnd.choice([100_000_000, 9_999, 10_000])
+    elif odd < 0.06: participant = rnd.choice([0, 24, 25])
+    elif odd < 0.07: quantity = rnd.choice([0, 500_000, 500_001])
+    elif odd < 0.09: price = rnd.choice([0, 1, 9_999, 10_000, 10_001, 10_050, 99_999_900, 99_999_999, 100_000_000])
     return ("enter", rnd.choice("BS"), kind, number, participant, quantity, display, price)
 
 
@@ -58,6 +58,7 @@ def join_play(rnd, number, lot):
         ("quote", 0, 0),
         ("enter", other, "I", number + 2, rnd.randint(1, 6), display - lot + 6 * lot // 10, 0, price),
         ("enter", other, "I", number + 3, rnd.randint(1, 6), display - lot + 7 * lot // 10, 0, price),
+        ("reduce", number + 1, rnd.choice([5, 10, 12, 15, 18, 20, 25]) * lot // 10),
     ]
 
 
@@ -69,6 +70,10 @@ def session(seed, calls):
     crowd = seed % 5 == 0
     if rnd.random() < 0.1:
         asks.append((400, ("halt",)))
+    # what a new book refuses, and the one call that it takes
+    for call in [("quote", 99_900, 100_100), ("close",), ("resume",), ("cancel", 1), ("reduce", 1, 1), ("enter", "B", "L", 1, 1, lot, 0, 100_000)]:
+        if rnd.random() < 0.1:
+            asks.append((400, call))
     asks.append((400, ("open",)))
     if crowd:
         # 128 orders that rest, on both sides and at many prices
@@ -84,12 +89,12 @@ def session(seed, calls):
             number += 3
         room, z = (399 if rnd.random() < 0.01 else 400), rnd.random()
         near = lambda: rnd.randint(max(1, number - 8), number + 1)
-        if z < 0.05: call = ("quote", rnd.choice([0, 99_800, 99_900, 100_000, 100_000_000]), rnd.choice([0, 100_000, 100_100, 100_200]))
+        if z < 0.05: call = ("quote", rnd.choice([0, 99_800, 99_900, 100_000, 99_999_999, 100_000_000]), rnd.choice([0, 1, 100_000, 100_100, 100_200, 99_999_999, 100_000_000]))
         elif z < 0.11: call = ("cancel", rnd.choice([near(), near(), near(), 0]))
-        elif z < 0.19: call = ("reduce", near(), rnd.choice([1, 5, 13, 40, 0]) * lot // 10)
-        elif z < 0.205: call = ("halt",)
+        elif z < 0.19: call = ("reduce", rnd.choice([near(), near(), near(), near(), 0, 1_000_000]), rnd.choice([1, 4, 5, 6, 9, 10, 13, 15, 25, 40, 0, 5_000_010]) * lot // 10)
+        elif z < 0.205: call = (rnd.choice(["halt", "halt", "halt", "open"]),)
         elif z < 0.24: call = ("resume",)
-        elif z < 0.243: call = ("close",)
+        elif z < 0.245: room, call = rnd.choice([400, 399]), ("close",)
         else:
             number += rnd.choice([0, 1, 1, 1, 1, 2]) if number else 1
             call = entry(rnd, number, lot)

@@ -15,11 +15,12 @@ unfolding lose put on-price earns-mark take-off-level take-off-side take-off in-
 cases-come-out =
     record {
       session = (refl, refl);
+      three-seats = refl;
       first-cancels = refl;
       second-cancels = refl;
       dealt-200 = refl;
       arrival-60 = refl;
-      arrival-70 = refl;
+      arrival-70 = (refl, refl);
       away-bid = (refl, refl, refl);
       away-offer = (refl, refl);
     }

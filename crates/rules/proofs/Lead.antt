@@ -1,10 +1,11 @@
 -- The lead law. Assumes nothing.
 use mathlib.Core.Path.{_≡_, refl, ap, _∙_, subst}
-use mathlib.Core.Bool.{Bool, cond}
+use mathlib.Core.Bool.{Bool, true, false, cond}
 use mathlib.Core.List.{List, [], _∷_}
 use mathlib.Core.Logic.{_⊎_, inl, inr}
 use Prim.Native.Nat.{ℕ, _+_, _-_, _≤_, _<_}
 use native.Mathlib.Omega.{arith}
+use lib.Dec.{eqb}
 use Rattle.std.specs.shelf.Lists.{All, kept-by}
 use Rattle.std.proofs.shelf.Tests.{cases-eq}
 use Rattle.std.specs.declared.option.Option.{Option}
@@ -20,13 +21,17 @@ use Rattle.rules.specs.declared.phases.Step.{Step}
 use Rattle.rules.specs.declared.calls.Call.{Call}
 use Rattle.rules.specs.declared.calls.Call.the-variants.{Open, Halt, Resume, Close, Quote, Enter, Cancel, Reduce}
 use Rattle.rules.specs.declared.answers.Refusal.{Refusal}
+use Rattle.rules.specs.declared.orders.Order.{Order}
+use Rattle.rules.specs.declared.answers.Row.{Row}
+use Rattle.rules.specs.Codes.{answer-number}
 use Rattle.rules.specs.Lists.{sum-of}
 use Rattle.rules.specs.Books.{side, Book, Ranking, good, Level, with-sides, with-phase, nothing-at}
 use Rattle.rules.specs.Quantities.{resting, of-side}
 use Rattle.rules.specs.Marks.{unmarked}
 use Rattle.rules.specs.TakingOff.{take-off-side, take-off, take-off-level}
 use Rattle.rules.specs.Refusals.{first, refusals, next-phase, phase-after}
-use Rattle.rules.specs.Entering.{Outcome}
+use Rattle.rules.specs.Trading.{Traded}
+use Rattle.rules.specs.Entering.{Outcome, finished, trade, arrived, not-placed, enter}
 use Rattle.rules.specs.Rules.{tidy, holds, effect, rule, ruled, new-with}
 use Rattle.rules.specs.Runs.{run, Ask, Event, final}
 use Rattle.rules.specs.Tables.{Good-table}
@@ -119,10 +124,26 @@ module _ (rank : Ranking) (O : TotalOrder (rank .good)) (lot : ℕ) where
   none-older c p Category.Displayed v h = omega arith
   none-older c p Category.Hidden v h = omega arith
 
+  ended : (t u : Bool) (e : Order) (n : ℕ) (rs : List Row) (b : Book) → answer-number (finished t u rank e n rs b .answer) ≡ 0
+  ended true u e n rs b = refl
+  ended false true e n rs b = refl
+  ended false false e n rs b = refl
+
+  accepted : (b : Book) (c : Call) → answer-number (effect rank parity b c .answer) ≡ 0
+  unfolding effect enter
+  accepted b Open = refl
+  accepted b Halt = refl
+  accepted b Resume = refl
+  accepted b Close = refl
+  accepted b (Quote x y) = refl
+  accepted b (Enter e) = let r : Traded Book = trade rank parity e (arrived e b) in ended (eqb (r .left) 0) (not-placed rank b e) e (r .left) (r .rows) (r .rest)
+  accepted b (Cancel n) = refl
+  accepted b (Reduce n m) = refl
+
   rule-lead : (p r : ℕ) → (p ≡ r → ⊥) → (cat : Category) (s : Side) (v : ℕ) (b : Book) (room : ℕ) (c : Call) → Kept rank O lot b
       → (let d : Outcome = rule rank parity b room c in let t : Bool = faces s c in
       cond t (sum-of (gained (trades-on cat) v (b .orders) p) (d .rows)) 0 < has-int cat p (level-at v (side s b))
-      → 0 < older c p (queue-in cat (level-at v (side s (d .book))) .parts)
+      → (answer-number (d .answer) ≡ 0 → 0 < older c p (queue-in cat (level-at v (side s (d .book))) .parts))
       → cond t (sum-of (gained (deals-on cat) v (b .orders) r) (d .rows)) 0 + slack-in p r lot cat (level-at v (side s b))
       ≤ cond t (sum-of (gained (deals-on cat) v (b .orders) p) (d .rows)) 0 + slack-in p r lot cat (level-at v (side s (d .book))))
   unfolding rule
@@ -131,7 +152,7 @@ module _ (rank : Ranking) (O : TotalOrder (rank .good)) (lot : ℕ) where
       go : (o : Option Refusal)
           → (let d : Outcome = ruled o rank parity b c in let t : Bool = faces s c in
           cond t (sum-of (gained (trades-on cat) v (b .orders) p) (d .rows)) 0 < has-int cat p (level-at v (side s b))
-          → 0 < older c p (queue-in cat (level-at v (side s (d .book))) .parts)
+          → (answer-number (d .answer) ≡ 0 → 0 < older c p (queue-in cat (level-at v (side s (d .book))) .parts))
           → cond t (sum-of (gained (deals-on cat) v (b .orders) r) (d .rows)) 0 + slack-in p r lot cat (level-at v (side s b))
           ≤ cond t (sum-of (gained (deals-on cat) v (b .orders) p) (d .rows)) 0 + slack-in p r lot cat (level-at v (side s (d .book))))
       go None some after =
@@ -140,7 +161,7 @@ module _ (rank : Ranking) (O : TotalOrder (rank .good)) (lot : ℕ) where
           let x : Book = d .book in
           let at : side s (tidy (with-phase ph x)) ≡ kept-by holds (side s x) = tidy-side s (with-phase ph x) ∙ ap (kept-by holds) (phase-side s ph x) in
           let P : Level → Type 0 = λ m. 0 < older c p (queue-in cat m .parts) in
-          let h : P (level-at v (kept-by holds (side s x))) = subst (λ ls. P (level-at v ls)) at after in
+          let h : P (level-at v (kept-by holds (side s x))) = subst (λ ls. P (level-at v ls)) at (after (accepted b c)) in
           let same : level-at v (kept-by holds (side s x)) ≡ level-at v (side s x) = kept-at P holds v (side s x) (once-at rank O lot s x (effect-ranked rank O parity b c (ranked rank O lot b k))) (none-older c p cat v) h in
           let to : level-at v (side s (tidy (with-phase ph x))) ≡ level-at v (side s x) = ap (level-at v) at ∙ same in
           let main = effect-lead p r ne cat s v b c k some (subst P same h) in

@@ -1,7 +1,7 @@
 -- The worked cases, round lot 100, by parity. Assumes nothing.
 use mathlib.Core.Path.{_≡_}
 use mathlib.Core.Bool.{Bool, true, false, cond}
-use mathlib.Core.List.{List, [], _∷_, map}
+use mathlib.Core.List.{List, [], _∷_, _++_, map}
 use Prim.Native.Nat.{ℕ}
 use lib.Dec.{eqb, leb}
 use Rattle.allocation.specs.Wheels.{Wheel, wheel-with}
@@ -14,7 +14,7 @@ use Rattle.rules.specs.declared.orders.Order.{Order}
 use Rattle.rules.specs.declared.phases.Phase.the-variants as Phase
 use Rattle.rules.specs.declared.phases.Step.the-variants as Step
 use Rattle.rules.specs.declared.calls.Call.{Call}
-use Rattle.rules.specs.declared.calls.Call.the-variants.{Open, Quote, Enter, Cancel}
+use Rattle.rules.specs.declared.calls.Call.the-variants.{Open, Halt, Resume, Quote, Enter, Cancel}
 use Rattle.rules.specs.declared.answers.Answer.{Answer}
 use Rattle.rules.specs.declared.answers.Answer.the-variants.{Accepted}
 use Rattle.rules.specs.declared.answers.Row.{Row}
@@ -45,10 +45,6 @@ history = run buyers parity (new-book 100)
 -- the book that it leaves
 abbrev pub ends : List Ask → Book
 ends cs = final (new-book 100) (history cs)
-
--- the book that a given one becomes
-abbrev pub after : Book → List Ask → Book
-after b cs = final b (run buyers parity b cs)
 
 -- answers and rows
 abbrev pub what-came : List Event → List (Answer × List Row)
@@ -87,37 +83,45 @@ Session =
 
 -- ## Seats 5, 7, 9 with used 40, and a cancel
 
--- a buy at 100000: number, participant, quantity, display quantity
-abbrev pub bought : ℕ → ℕ → ℕ → ℕ → Order
-bought n p q d = record { number = n; participant = p; side = Buy; kind = cond (eqb d 0) Kind.Limit Kind.Reserve; quantity = q; display = d; price = 100000 }
-
--- an open book with buys alone
-abbrev pub book-of : List Order → List Level → Book
-book-of es ls = record { lot = 100; steps = steps; phase = Phase.Open; last = 9; bid = 0; offer = 0; orders = es; buys = ls; sells = [] }
-
--- three participants with 200 each
-abbrev pub three-seats : Book
+-- three participants with 200 each, none marked after a halt; 5 has taken 40 of its turn
+abbrev pub three-seats : List Ask
 three-seats =
-    book-of (bought 1 5 200 0 ∷ bought 2 7 200 0 ∷ bought 3 9 200 0 ∷ [])
-    (level 100000 (queue (part 1 5 200 false ∷ part 2 7 200 false ∷ part 3 9 200 false ∷ []) (wheel-with (5 ∷ 7 ∷ 9 ∷ []) 40)) (queue [] no-seats) ∷ [])
+    ask Open
+    ∷ enters Buy Kind.Limit 1 5 200 0 100000
+    ∷ enters Buy Kind.Limit 2 7 200 0 100000
+    ∷ enters Buy Kind.Limit 3 9 200 0 100000
+    ∷ ask Halt
+    ∷ ask Resume
+    ∷ enters Sell Kind.Immediate 4 2 40 0 100000
+    ∷ []
 
 -- the wheels of the buys
 abbrev pub wheels : Book → List (ℕ × Wheel × Wheel)
 wheels b = map (λ l. (l .price, l .shown .wheel, l .hidden .wheel)) (b .buys)
 
+-- seats 5, 7, 9 with used 40
+abbrev pub Three-seats : Type 0
+Three-seats = wheels (ends three-seats) ≡ ((100000, wheel-with (5 ∷ 7 ∷ 9 ∷ []) 40, no-seats) ∷ [])
+
 -- the first seat is lost: the next starts with used 0
 abbrev pub First-cancels : Type 0
-First-cancels = wheels (after three-seats (ask (Cancel 1) ∷ [])) ≡ ((100000, wheel-with (7 ∷ 9 ∷ []) 0, no-seats) ∷ [])
+First-cancels = wheels (ends (three-seats ++ (ask (Cancel 1) ∷ []))) ≡ ((100000, wheel-with (7 ∷ 9 ∷ []) 0, no-seats) ∷ [])
 
 -- another seat is lost: used stays
 abbrev pub Second-cancels : Type 0
-Second-cancels = wheels (after three-seats (ask (Cancel 2) ∷ [])) ≡ ((100000, wheel-with (5 ∷ 9 ∷ []) 40, no-seats) ∷ [])
+Second-cancels = wheels (ends (three-seats ++ (ask (Cancel 2) ∷ []))) ≡ ((100000, wheel-with (5 ∷ 9 ∷ []) 40, no-seats) ∷ [])
 
 -- ## Interests 60 and 300, deal 200
 
+-- two buys, none marked after a halt
+abbrev pub sixty-and-300 : List Ask
+sixty-and-300 =
+    ask Open ∷ enters Buy Kind.Limit 1 5 60 0 100000 ∷ enters Buy Kind.Limit 2 7 300 0 100000 ∷ ask Halt ∷ ask Resume ∷ enters Sell Kind.Immediate 3 2 200 0 100000 ∷ []
+
 -- 60 and 140, and the second seat has used 40
 abbrev pub Dealt-200 : Type 0
-Dealt-200 = parity 200 (wheel-with (5 ∷ 7 ∷ []) 0) 100 (claim 5 60 ∷ claim 7 300 ∷ []) ≡ dealt (60 ∷ 140 ∷ []) (wheel-with (7 ∷ []) 40)
+Dealt-200 =
+    sides (ends sixty-and-300) ≡ (level 100000 (queue (part 2 7 160 false ∷ []) (wheel-with (7 ∷ []) 40)) (queue [] no-seats) ∷ [], [])
 
 -- ## Reserve 350 showing 100
 
@@ -135,15 +139,17 @@ Arrival-60 =
     shown-and-hidden (ends (ask Open ∷ enters Buy Kind.Reserve 1 5 350 100 100000 ∷ enters Sell Kind.Immediate 2 2 60 0 100000 ∷ []))
     ≡ ((40 ∷ 100 ∷ [], 150 ∷ []) ∷ [])
 
--- there, only the 100 marked
-abbrev pub only-the-100-marked : Book
+-- the same after a halt, so that only the 100 is marked
+abbrev pub only-the-100-marked : List Ask
 only-the-100-marked =
-    book-of (bought 1 5 350 100 ∷ [])
-    (level 100000 (queue (part 1 5 40 false ∷ part 1 5 100 true ∷ []) (wheel-with (5 ∷ []) 60)) (queue (part 1 5 150 false ∷ []) (wheel-with (5 ∷ []) 0)) ∷ [])
+    ask Open ∷ enters Buy Kind.Reserve 1 5 350 100 100000 ∷ ask Halt ∷ ask Resume ∷ enters Sell Kind.Immediate 2 2 60 0 100000 ∷ []
 
 -- 70 trade with the 100, the 30 left join the hidden part: it shows 40 and 100, and hides 80
 abbrev pub Arrival-70 : Type 0
-Arrival-70 = shown-and-hidden (after only-the-100-marked (enters Sell Kind.Immediate 10 2 70 0 100000 ∷ [])) ≡ ((40 ∷ 100 ∷ [], 80 ∷ []) ∷ [])
+Arrival-70 =
+    (sides (ends only-the-100-marked)
+    ≡ (level 100000 (queue (part 1 5 40 false ∷ part 1 5 100 true ∷ []) (wheel-with (5 ∷ []) 60)) (queue (part 1 5 150 false ∷ []) (wheel-with (5 ∷ []) 0)) ∷ [], []))
+    × (shown-and-hidden (ends (only-the-100-marked ++ (enters Sell Kind.Immediate 3 2 70 0 100000 ∷ []))) ≡ ((40 ∷ 100 ∷ [], 80 ∷ []) ∷ []))
 
 -- ## The away quote
 
@@ -171,6 +177,7 @@ Away-offer =
 -- all of them
 pub record Cases : Type 0 where
   pub session : Session
+  pub three-seats : Three-seats
   pub first-cancels : First-cancels
   pub second-cancels : Second-cancels
   pub dealt-200 : Dealt-200

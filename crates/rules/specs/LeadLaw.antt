@@ -17,6 +17,7 @@ use Rattle.rules.specs.declared.calls.Call.{Call}
 use Rattle.rules.specs.declared.calls.Call.the-variants.{Open, Halt, Resume, Close, Quote, Enter, Cancel, Reduce}
 use Rattle.rules.specs.declared.answers.Row.{Row}
 use Rattle.rules.specs.declared.answers.Row.the-variants.{Trade, GivenBack}
+use Rattle.rules.specs.Codes.{answer-number}
 use Rattle.rules.specs.Lists.{sum-of, any}
 use Rattle.rules.specs.Books.{Queue, Level, nothing-at, Ranking, Book, same-side, other, side}
 use Rattle.rules.specs.Quantities.{claims}
@@ -113,11 +114,11 @@ arrives (Reduce x y) n = false
 abbrev pub older : Call → ℕ → List Part → ℕ
 older c p = sum-of (λ x. cond (not (arrives c (x .order)) && eqb p (x .participant)) (x .quantity) 0)
 
--- p's interest stays above zero, also inside the call: before it, after its trades, and before the arriving order is placed
+-- p's interest stays above zero, also inside the call: before it, after its trades, and, if it is accepted, before the arriving order is placed
 pub record Keeps (w : Spot) (p : ℕ) (v : Event) : Type 0 where
   pub before : 0 < interest p (claims (queue-at w (v .before) .parts))
   pub traded : traded-there w p v < interest p (claims (queue-at w (v .before) .parts))
-  pub after : 0 < older (v .ask .1) p (queue-at w (v .did .book) .parts)
+  pub after : answer-number (v .did .answer) ≡ 0 → 0 < older (v .ask .1) p (queue-at w (v .did .book) .parts)
 
 -- From any moment of a run to any later one: if p keeps its seat over each call between them,
 -- then what q's resting orders traded on that wheel exceeds what p's did by no more than the round lot.
