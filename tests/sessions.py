@@ -177,7 +177,7 @@ use Rattle.rules.specs.Cases.{what-came}
 abbrev order : Side → Kind → ℕ → ℕ → ℕ → ℕ → ℕ → Order
 order s k n p q d v = record { number = n; participant = p; side = s; kind = k; quantity = q; display = d; price = v }
 """
-RANKINGS = {"B": "(ranked-by 66 (λ a b. leb b a))", "S": "(ranked-by 83 (λ a b. leb a b))"}
+RANKINGS = {"B": "(ranked-by buyers-letter higher-is-better)", "S": "(ranked-by sellers-letter lower-is-better)"}
 STRETCH = 12
 
 

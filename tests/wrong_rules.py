@@ -59,9 +59,10 @@ def main():
             done = subprocess.run(["rt", "dev", crate], cwd=copy, capture_output=True, text=True)
         out = done.stdout + done.stderr
         names = failing(out)
-        if "logic=proved" in out or not names:
+        unread = "not in scope" in out or "parse" in out
+        if "logic=proved" in out or not names or unread:
             missed += 1
-        print(f"{what}: {', '.join(names[:8]) or 'NOT NOTICED'}", flush=True)
+        print(f"{what}: {'NOT A RULE' if unread else ', '.join(names[:8]) or 'NOT NOTICED'}", flush=True)
     return 1 if missed else 0
 
 

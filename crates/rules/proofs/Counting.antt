@@ -24,7 +24,7 @@ use Rattle.rules.specs.Books.{Level, same-side, Ranking}
 use Rattle.rules.specs.Trading.{taken}
 use Rattle.rules.specs.Rules.{holds, empty, row-traded}
 use Rattle.rules.specs.Tables.{has-step}
-use Rattle.rules.specs.OrderLaw.{of-step, untraded, at-level, at-levels, Met, rows-for}
+use Rattle.rules.specs.OrderLaw.{of-step, untraded, at-level, at-levels, Reached, rows-for}
 use Rattle.rules.specs.Invariants.{parts-of, listed, Orderly, prices, numbers, Best-first}
 use Rattle.rules.specs.Sizes.{parts-on, parts-at}
 use Rattle.rules.proofs.Crossing.{Fine}
@@ -251,7 +251,7 @@ reach-few lot ss g (l ∷ ls) f = go (g l) (reach-few lot ss g ls f)
     go true ih = omega (arith, length-append (at-level (has-step Step.Setter ss) lot ss l) (at-levels lot ss (kept-by g ls)), level-few (has-step Step.Setter ss) lot ss l f)
     go false ih = omega arith
 
-pub rows-few : (a : ℕ) (ms : List Met) → length (rows-for a ms) ≤ length ms
+pub rows-few : (a : ℕ) (ms : List Reached) → length (rows-for a ms) ≤ length ms
 rows-few a [] = omega arith
 rows-few a (m ∷ ms) = go (eqb (m .share) 0) (rows-few a ms)
   where
@@ -259,7 +259,7 @@ rows-few a (m ∷ ms) = go (eqb (m .share) 0) (rows-few a ms)
     go true ih = omega arith
     go false ih = omega arith
 
-pub rows-some : (a : ℕ) (ms : List Met) → All (λ r. 0 < row-traded r) (rows-for a ms)
+pub rows-some : (a : ℕ) (ms : List Reached) → All (λ r. 0 < row-traded r) (rows-for a ms)
 rows-some a [] = tt
 rows-some a (m ∷ ms) = go (eqb (m .share) 0) refl (rows-some a ms)
   where

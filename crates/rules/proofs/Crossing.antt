@@ -21,11 +21,11 @@ use Rattle.rules.specs.Changes.{lowered}
 use Rattle.rules.specs.Trading.{Traded, rows-of, traded, queue-of, step-shares, trade-price, with-queue, taken, trade-side, trade-reached}
 use Rattle.rules.specs.Refusals.{none}
 use Rattle.rules.specs.Tables.{has-step, same-step, place-of, count, Good-table}
-use Rattle.rules.specs.OrderLaw.{of-step, rows-for, forget, at-level, Met, at-levels}
+use Rattle.rules.specs.OrderLaw.{of-step, rows-for, forget, at-level, Reached, at-levels}
 use Rattle.rules.specs.Invariants.{Sound-level, Best-first, prices}
 use Rattle.rules.proofs.Trades.{Fair, fair-shares}
 use Rattle.rules.proofs.Stages.{Stage, Stepped, setter-step, shown-step, hidden-step}
-use Rattle.rules.proofs.Chains.{meet, Group, mets, Chain, chain-append, meet-forget, meet-rows, rows-for-append, Ahead, Ordered}
+use Rattle.rules.proofs.Chains.{meet, Group, reached, Chain, chain-append, meet-forget, meet-rows, rows-for-append, Ahead, Ordered}
 use Rattle.rules.proofs.Members.{all-both}
 
 -- what the proofs use of a table: no step twice, and S not behind D
@@ -38,9 +38,9 @@ Fine (Step.Hidden ∷ ss) = (has-step Step.Hidden ss ≡ false) × Fine ss
 abbrev group : ℕ → Step → List Part → List ℕ → Group
 group v s ps xs = record { price = v; step = s; parts = ps; xs = xs }
 
-mets-append : (gs hs : List Group) → mets (gs ++ hs) ≡ mets gs ++ mets hs
+mets-append : (gs hs : List Group) → reached (gs ++ hs) ≡ reached gs ++ reached hs
 mets-append [] hs = refl
-mets-append (g ∷ gs) hs = rw (mets-append gs hs) (sym (append-assoc (meet (g .price) (g .step) (g .parts) (g .xs)) (mets gs) (mets hs)))
+mets-append (g ∷ gs) hs = rw (mets-append gs hs) (sym (append-assoc (meet (g .price) (g .step) (g .parts) (g .xs)) (reached gs) (reached hs)))
 
 -- ## The steps at one price
 
@@ -104,8 +104,8 @@ module _ (deal : Deal) (D : Lawful deal) (lot a : ℕ) where
   record Staged (t : Bool) (ss : List Step) (q : ℕ) (l : Level) (r : Traded Level) : Type 0 where
     groups : List Group
     chain : Chain q groups (r .left)
-    same-rows : r .rows ≡ rows-for a (mets groups)
-    whom : map forget (mets groups) ≡ at-level t lot ss l
+    same-rows : r .rows ≡ rows-for a (reached groups)
+    all-reached : map forget (reached groups) ≡ at-level t lot ss l
     priced : All (λ g. g .price ≡ l .price) groups
     rising : Rising ss groups
     inside : All (λ g. has-step (g .step) ss ≡ true) groups
@@ -115,12 +115,12 @@ module _ (deal : Deal) (D : Lawful deal) (lot a : ℕ) where
       → Stage q (of-step t lot s l) xs q′ → rs ≡ rows-of s a (l .price) (of-step t lot s l) xs → Staged t ss q′ l r → Staged t (s ∷ ss) q l (traded (r .left) (rs ++ r .rows) (r .rest))
   one-step-more t s ss q q′ l xs rs r new st rows c =
       let g : Group = group (l .price) s (of-step t lot s l) xs in
-      let here : List Met = meet (l .price) s (of-step t lot s l) xs in
+      let here : List Reached = meet (l .price) s (of-step t lot s l) xs in
       record {
         groups = g ∷ c .groups;
         chain = (q′, st, c .chain);
-        same-rows = sym (rows-for-append a here (mets (c .groups)) ∙ rw (meet-rows a (l .price) s (of-step t lot s l) xs, rows, c .same-rows));
-        whom = map-append forget here (mets (c .groups)) ∙ rw (meet-forget (l .price) s (of-step t lot s l) xs, c .whom);
+        same-rows = sym (rows-for-append a here (reached (c .groups)) ∙ rw (meet-rows a (l .price) s (of-step t lot s l) xs, rows, c .same-rows));
+        all-reached = map-append forget here (reached (c .groups)) ∙ rw (meet-forget (l .price) s (of-step t lot s l) xs, c .all-reached);
         priced = (refl, c .priced);
         rising = (behind s ss (c .groups) new (c .inside), rising-more s ss (c .groups) new (c .inside) (c .rising));
         inside = (rw (self s), in-more s ss (c .groups) (c .inside));
@@ -131,7 +131,7 @@ module _ (deal : Deal) (D : Lawful deal) (lot a : ℕ) where
 
   staged : (t : Bool) (ss : List Step) (q : ℕ) (l m : Level) → Fine ss → Stand t ss q l m → Staged t ss q l (trade-price deal lot a ss q m)
   unfolding trade-price
-  staged t [] q l m f h = record { groups = []; chain = refl; same-rows = refl; whom = refl; priced = tt; rising = tt; inside = tt }
+  staged t [] q l m f h = record { groups = []; chain = refl; same-rows = refl; all-reached = refl; priced = tt; rising = tt; inside = tt }
   staged t (Step.Setter ∷ ss) q l m f h =
       let d : Dealt = step-shares deal lot q Step.Setter m in
       let m′ : Level = with-queue Step.Setter (queue (lowered (m .shown .parts) (d .shares)) (d .wheel)) m in
@@ -184,11 +184,11 @@ module _ (deal : Deal) (D : Lawful deal) (lot a : ℕ) where
       (record { good = g; price = refl; marked = λ y. (y, refl); shown = λ y _ _. sym (ap (λ u. cond (u && taken lot l) (kept-by (λ p. not (p .marked)) (l .shown .parts)) (l .shown .parts)) y); hidden = λ _. refl })
 
 module _ (rank : Ranking) (O : TotalOrder (rank .good)) (s : Side) where
-  pub record Crossed (table : List Step) (a q : ℕ) (vs : List ℕ) (target : List Met) (rows : List Row) (left : ℕ) : Type 0 where
+  pub record Crossed (table : List Step) (a q : ℕ) (vs : List ℕ) (target : List Reached) (rows : List Row) (left : ℕ) : Type 0 where
     pub groups : List Group
     pub chain : Chain q groups left
-    pub same-rows : rows ≡ rows-for a (mets groups)
-    pub whom : map forget (mets groups) ≡ target
+    pub same-rows : rows ≡ rows-for a (reached groups)
+    pub all-reached : map forget (reached groups) ≡ target
     pub among : (v : ℕ) → All (λ w. better rank s v w ≡ true) vs → All (λ g. better rank s v (g .price) ≡ true) groups
     pub ordered : Ordered rank O s table groups
 
@@ -207,7 +207,7 @@ module _ (rank : Ranking) (O : TotalOrder (rank .good)) (s : Side) where
     pub crossed : (table : List Step) → Fine table → (reaches : ℕ → Bool) (q : ℕ) (ls : List Level) → All (Sound-level lot) ls → Best-first rank s (prices ls)
         → (let r : Traded (List Level) = trade-side deal lot a table reaches q ls in Crossed table a q (prices ls) (at-levels lot table (kept-by (λ l. reaches (l .price)) ls)) (r .rows) (r .left))
     unfolding trade-side
-    crossed table f reaches q [] g o = record { groups = []; chain = refl; same-rows = refl; whom = refl; among = λ v k. tt; ordered = tt }
+    crossed table f reaches q [] g o = record { groups = []; chain = refl; same-rows = refl; all-reached = refl; among = λ v k. tt; ordered = tt }
     crossed table f reaches q (l ∷ ls) g o = go (reaches (l .price)) (λ m. crossed table f reaches m ls (g .1) (o .1))
       where
         go : (t : Bool)
@@ -222,15 +222,15 @@ module _ (rank : Ranking) (O : TotalOrder (rank .good)) (s : Side) where
             record {
               groups = h .groups ++ c .groups;
               chain = chain-append q (r .left) (u .left) (h .groups) (c .groups) (h .chain) (c .chain);
-              same-rows = sym (ap (rows-for a) (mets-append (h .groups) (c .groups)) ∙ rows-for-append a (mets (h .groups)) (mets (c .groups)) ∙ rw (h .same-rows, c .same-rows));
-              whom = ap (map forget) (mets-append (h .groups) (c .groups)) ∙ map-append forget (mets (h .groups)) (mets (c .groups)) ∙ rw (h .whom, c .whom);
+              same-rows = sym (ap (rows-for a) (mets-append (h .groups) (c .groups)) ∙ rows-for-append a (reached (h .groups)) (reached (c .groups)) ∙ rw (h .same-rows, c .same-rows));
+              all-reached = ap (map forget) (mets-append (h .groups) (c .groups)) ∙ map-append forget (reached (h .groups)) (reached (c .groups)) ∙ rw (h .all-reached, c .all-reached);
               among = λ v k. all-append (λ g. better rank s v (g .price) ≡ true) (h .groups) (c .groups)
                   (all-weaker (λ g. g .price ≡ l .price) (λ g. better rank s v (g .price) ≡ true) (λ g e. rw e (k .0)) (h .groups) (h .priced)) (c .among v (k .1));
               ordered = join-ordered table (l .price) (h .groups) (c .groups) (h .priced) (h .rising) (c .among (l .price) (o .0)) (c .ordered);
             }
         go false ih =
             let c = ih q in
-            record { groups = c .groups; chain = c .chain; same-rows = c .same-rows; whom = c .whom; among = λ v k. c .among v (k .1); ordered = c .ordered }
+            record { groups = c .groups; chain = c .chain; same-rows = c .same-rows; all-reached = c .all-reached; among = λ v k. c .among v (k .1); ordered = c .ordered }
 
 -- ## Sound-level tables
 

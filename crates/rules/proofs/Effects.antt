@@ -26,7 +26,7 @@ use Rattle.rules.specs.Trading.{Traded}
 use Rattle.rules.specs.Refusals.{rests, none}
 use Rattle.rules.specs.Entering.{place, not-placed, Outcome, finished, with-order}
 use Rattle.rules.specs.Rules.{holds, empty, tidy, steps, all-back}
-use Rattle.rules.specs.Runs.{traded-in, returned-in}
+use Rattle.rules.specs.Runs.{traded-in, given-back-in}
 use Rattle.rules.specs.Invariants.{numbers, Sound-level}
 use Rattle.rules.proofs.Members.{has-push, distinct-push, sum-of-append}
 use Rattle.rules.proofs.Levels.{take-off-side-good, take-off-side-of}
@@ -121,7 +121,7 @@ tidy-fit lot b f =
 
 pub record Did (lot : ℕ) (b : Book) (entry : ℕ → ℕ) (rows : List Row) (c : Book) : Type 0 where
   pub fit : Fit lot c
-  pub balance : (n : ℕ) → resting n b + entry n ≡ sum-of (traded-in n) rows + sum-of (returned-in n) rows + resting n c
+  pub balance : (n : ℕ) → resting n b + entry n ≡ sum-of (traded-in n) rows + sum-of (given-back-in n) rows + resting n c
 
 -- ## An enter
 
@@ -161,7 +161,7 @@ module _ (rank : Ranking) (lot : ℕ) (e : Order) (b : Book) (f : Fit lot b) (d 
         fit = traded-fit;
         balance = λ n. (let a = counts n in let v = T .even n in let v0 = v .rest in let v1 = v .came in let v2 = v .back in
             let s = sum-of-append (traded-in n) (r .rows) (GivenBack (e .number) (r .left) ∷ []) in
-            let t = sum-of-append (returned-in n) (r .rows) (GivenBack (e .number) (r .left) ∷ []) in grind arith);
+            let t = sum-of-append (given-back-in n) (r .rows) (GivenBack (e .number) (r .left) ∷ []) in grind arith);
       }
   finished-did false false z p =
       let c : Book = place rank (e .kind) e (r .left) (r .rest) in
@@ -205,16 +205,16 @@ pub back-traded : (n : ℕ) (b : Book) (es : List Order) → sum-of (traded-in n
 back-traded n b [] = refl
 back-traded n b (e ∷ es) = omega (arith, back-traded n b es)
 
-pub back-unlisted : (n : ℕ) (b : Book) (es : List Order) → has n (numbers es) ≡ false → sum-of (returned-in n) (all-back b es) ≡ 0
+pub back-unlisted : (n : ℕ) (b : Book) (es : List Order) → has n (numbers es) ≡ false → sum-of (given-back-in n) (all-back b es) ≡ 0
 back-unlisted n b [] h = refl
 back-unlisted n b (e ∷ es) h = let ih = back-unlisted n b es (or-parts (eqb (e .number) n) (has n (numbers es)) h .1) in let z = or-parts (eqb (e .number) n) (has n (numbers es)) h .0 in grind arith
 
-pub back-listed : (n : ℕ) (b : Book) (es : List Order) → has n (numbers es) ≡ true → Distinct (numbers es) → sum-of (returned-in n) (all-back b es) ≡ resting n b
+pub back-listed : (n : ℕ) (b : Book) (es : List Order) → has n (numbers es) ≡ true → Distinct (numbers es) → sum-of (given-back-in n) (all-back b es) ≡ resting n b
 back-listed n b [] h o = absurd (false≢true h)
 back-listed n b (e ∷ es) h o = go (eqb (e .number) n) refl h (back-unlisted n b es) (λ i. back-listed n b es i (o .1))
   where
-    go : (t : Bool) → eqb (e .number) n ≡ t → (t || has n (numbers es)) ≡ true → (has n (numbers es) ≡ false → sum-of (returned-in n) (all-back b es) ≡ 0)
-        → (has n (numbers es) ≡ true → sum-of (returned-in n) (all-back b es) ≡ resting n b) → cond t (resting (e .number) b) 0 + sum-of (returned-in n) (all-back b es) ≡ resting n b
+    go : (t : Bool) → eqb (e .number) n ≡ t → (t || has n (numbers es)) ≡ true → (has n (numbers es) ≡ false → sum-of (given-back-in n) (all-back b es) ≡ 0)
+        → (has n (numbers es) ≡ true → sum-of (given-back-in n) (all-back b es) ≡ resting n b) → cond t (resting (e .number) b) 0 + sum-of (given-back-in n) (all-back b es) ≡ resting n b
     go true z i none more =
         let same : e .number ≡ n = eqb-true (e .number) n z in
         let gone : has n (numbers es) ≡ false = subst (λ k. has k (numbers es) ≡ false) same (o .0) in
@@ -222,10 +222,10 @@ back-listed n b (e ∷ es) h o = go (eqb (e .number) n) refl h (back-unlisted n 
         omega (arith, none gone)
     go false z i none more = omega (arith, more i)
 
-pub all-given : (lot n : ℕ) (b : Book) → Fit lot b → sum-of (returned-in n) (all-back b (b .orders)) ≡ resting n b
+pub all-given : (lot n : ℕ) (b : Book) → Fit lot b → sum-of (given-back-in n) (all-back b (b .orders)) ≡ resting n b
 all-given lot n b f = go (has n (numbers (b .orders))) refl
   where
-    go : (t : Bool) → has n (numbers (b .orders)) ≡ t → sum-of (returned-in n) (all-back b (b .orders)) ≡ resting n b
+    go : (t : Bool) → has n (numbers (b .orders)) ≡ t → sum-of (given-back-in n) (all-back b (b .orders)) ≡ resting n b
     go true h = back-listed n b (b .orders) h (f .once)
     go false h = back-unlisted n b (b .orders) h ∙ sym (zero (resting n b) (λ p. false≢true (sym h ∙ f .covered n p)))
       where

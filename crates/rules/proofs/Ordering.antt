@@ -25,17 +25,17 @@ use Rattle.rules.specs.Refusals.{within, first, refusals}
 use Rattle.rules.specs.Entering.{trade, finished, enter, arrived, not-placed}
 use Rattle.rules.specs.Rules.{steps, rule, effect, ruled, new-with}
 use Rattle.rules.specs.Runs.{run, Ask, Entered}
-use Rattle.rules.specs.OrderLaw.{Met, is-trade, rows-for, forget, at-levels, Better, In-order, Trades-in-order}
+use Rattle.rules.specs.OrderLaw.{Reached, is-trade, rows-for, forget, at-levels, Better, In-order, Trades-in-order}
 use Rattle.rules.specs.Invariants.{Sound-level, Best-first, prices}
 use Rattle.rules.specs.Codes.{answer-number}
-use Rattle.rules.proofs.Chains.{mets, chain-within, chain-full, chain-sum, chain-order}
+use Rattle.rules.proofs.Chains.{reached, chain-within, chain-full, chain-sum, chain-order}
 use Rattle.rules.proofs.Crossing.{Fine, fine-good, crossed}
 use Rattle.rules.proofs.Fits.{Fit, side-good}
 use Rattle.rules.proofs.Rulings.{rule-did, refusal-some}
 use Rattle.rules.proofs.Sum.{fresh-fit}
 use Rattle.rules.proofs.Ranked.{Ranked, sorted-side, rule-ranked}
 
-kept-trades : (a : ℕ) (ms : List Met) → kept-by is-trade (rows-for a ms) ≡ rows-for a ms
+kept-trades : (a : ℕ) (ms : List Reached) → kept-by is-trade (rows-for a ms) ≡ rows-for a ms
 kept-trades a [] = refl
 kept-trades a (m ∷ ms) = go (eqb (m .share) 0) (kept-trades a ms)
   where
@@ -51,7 +51,7 @@ finished-rows false false rank e n rs b = refl
 
 module _ (rank : Ranking) (O : TotalOrder (rank .good)) (deal : Deal) (D : Lawful deal) where
   pub record Core (s : Side) (lot a q : ℕ) (reaches : ℕ → Bool) (ls : List Level) (ss : List Step) : Type 0 where
-    pub mets′ : List Met
+    pub mets′ : List Reached
     pub whom′ : map forget mets′ ≡ at-levels lot ss (kept-by (λ l. reaches (l .price)) ls)
     pub rows′ : trade-side deal lot a ss reaches q ls .rows ≡ rows-for a mets′
     pub within′ : All (λ x. x .share ≤ x .size) mets′
@@ -63,8 +63,8 @@ module _ (rank : Ranking) (O : TotalOrder (rank .good)) (deal : Deal) (D : Lawfu
       let left : ℕ = trade-side deal lot a ss reaches q ls .left in
       let c = crossed rank O s deal D lot a ss f reaches q ls g o in
       record {
-        mets′ = mets (c .groups);
-        whom′ = c .whom;
+        mets′ = reached (c .groups);
+        whom′ = c .all-reached;
         rows′ = c .same-rows;
         within′ = chain-within q (c .groups) left (c .chain);
         best-first′ = chain-order rank O s ss q (c .groups) left (c .chain) (c .ordered);
@@ -79,8 +79,8 @@ module _ (rank : Ranking) (O : TotalOrder (rank .good)) (deal : Deal) (D : Lawfu
       core s (b .lot) (e .number) (e .quantity) (in-reach rank b e) (side s b) (b .steps) (r .steps) (subst (λ k. All (Sound-level k) (side s b)) (sym (f .sides .is)) (side-good lot s b (f .sides))) (sorted-side rank O s b r) in
       let x : Traded Book = trade rank deal e (arrived e b) in
       record {
-        mets = c .mets′;
-        whom = c .whom′;
+        reached = c .mets′;
+        all-reached = c .whom′;
         rows = finished-rows (eqb (x .left) 0) (not-placed rank b e) rank e (x .left) (x .rows) (x .rest) ∙ ap (kept-by is-trade) (c .rows′) ∙ kept-trades (e .number) (c .mets′);
         within = c .within′;
         best-first = c .best-first′;
@@ -94,7 +94,7 @@ module _ (rank : Ranking) (O : TotalOrder (rank .good)) (deal : Deal) (D : Lawfu
       go : (o : Option Refusal) → answer-number (ruled o rank deal b (Enter e) .answer) ≡ 0 → In-order rank b e (ruled o rank deal b (Enter e))
       go None h =
           let i : In-order rank b e (enter rank deal e b) = enter-in-order lot e b f r in
-          record { mets = i .mets; whom = i .whom; rows = i .rows; within = i .within; best-first = i .best-first; left-over = i .left-over }
+          record { reached = i .reached; all-reached = i .all-reached; rows = i .rows; within = i .within; best-first = i .best-first; left-over = i .left-over }
       go (Some x) h = absurd (omega (arith, refusal-some x))
 
   run-in-order : (lot : ℕ) (b : Book) (asks : List Ask) → Fit lot b → Ranked rank O b → All (λ v. (e : Order) → Entered v e → In-order rank (v .before) e (v .did)) (run rank deal b asks)

@@ -121,9 +121,9 @@ module _ (rank : Ranking) (O : TotalOrder (rank .good)) (deal : Deal) (D : Lawfu
   unfolding trade replenish
   met-book b e s =
       record {
-        midway = all-midway rank O (b .lot) (s .lot) es met es displays (own-each es) mid;
-        apart = all-apart rank met es (apart-met t);
-        rested = all-rested rank O (b .lot) (s .lot) es met es once displays big (own-each es) (unique-each es once) mid;
+        midway = all-midway rank O (b .lot) (s .lot) es reached-part es displays (own-each es) mid;
+        apart = all-apart rank reached-part es (apart-met t);
+        rested = all-rested rank O (b .lot) (s .lot) es reached-part es once displays big (own-each es) (unique-each es once) mid;
         emptied = λ some. kept-empty t (side-emptied deal D (b .lot) (e .number) (b .steps) (has-counted Step.Displayed (b .steps) (s .table .one-displayed)) (has-counted Step.Hidden (b .steps) (s .table .one-hidden)) reach (e .quantity) (side t c) (side-good (b .lot) t b sides) some);
       }
     where
@@ -142,8 +142,8 @@ module _ (rank : Ranking) (O : TotalOrder (rank .good)) (deal : Deal) (D : Lawfu
       rest : List Level
       rest = trade-side deal (b .lot) (e .number) (b .steps) reach (e .quantity) (side t c) .rest
 
-      met : Book
-      met = with-side t rest c
+      reached-part : Book
+      reached-part = with-side t rest c
 
       sides : Sides (b .lot) b
       sides = record { is = refl; buys = s .buys .sound; sells = s .sells .sound }
@@ -157,7 +157,7 @@ module _ (rank : Ranking) (O : TotalOrder (rank .good)) (deal : Deal) (D : Lawfu
       big : All (λ x. is-reserve (x .kind) ≡ true → b .lot ≤ x .display) es
       big = all-weaker (Admitted (b .lot)) (λ x. is-reserve (x .kind) ≡ true → b .lot ≤ x .display) (λ x a r. display-enough (b .lot) x (s .lot) a r) es (s .admitted)
 
-      mid : Midway rank O (b .lot) (s .lot) es met
+      mid : Midway rank O (b .lot) (s .lot) es reached-part
       mid = midway-met b e s (s .lot)
 
       traded-held : (t : Side) (P : ℕ → Type 0) → All (Held P) (side t c) → All (Held P) (trade-side deal (b .lot) (e .number) (b .steps) reach (e .quantity) (side t c) .rest)

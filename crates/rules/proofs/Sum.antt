@@ -20,7 +20,7 @@ use Rattle.rules.specs.Books.{Book, Ranking}
 use Rattle.rules.specs.Quantities.{resting}
 use Rattle.rules.specs.Entering.{Outcome}
 use Rattle.rules.specs.Rules.{rule, new-with}
-use Rattle.rules.specs.Runs.{Event, run, Ask, traded-by, returned-to, final, Entered}
+use Rattle.rules.specs.Runs.{Event, run, Ask, traded-by, given-back-to, final, Entered}
 use Rattle.rules.specs.SumLaw.{Adds-up}
 use Rattle.rules.specs.Codes.{answer-number}
 use Rattle.rules.proofs.Members.{all-both}
@@ -43,7 +43,7 @@ only-at-last n b (Reduce x y) h = refl
 
 module _ (rank : Ranking) (deal : Deal) (D : Lawful deal) (lot : ℕ) where
   pub run-balance : (n : ℕ) (b : Book) (asks : List Ask) → Fit lot b
-      → (let past : List Event = run rank deal b asks in resting n b + sum-of (brought n) past ≡ traded-by n past + returned-to n past + resting n (final b past))
+      → (let past : List Event = run rank deal b asks in resting n b + sum-of (brought n) past ≡ traded-by n past + given-back-to n past + resting n (final b past))
   run-balance n b [] f = omega arith
   run-balance n b (a ∷ asks) f =
       let x : Outcome = rule rank deal b (a .0) (a .1) in
@@ -177,6 +177,6 @@ adds-up rank deal D lot pos table asks =
     let past : List Event = run rank deal (new-with lot table) asks in
     let f : Fit lot (new-with lot table) = fresh-fit rank deal D lot pos table in
     all-weaker (Once-only rank deal D lot past)
-    (λ v. (e : Order) → Entered v e → traded-by (e .number) past + returned-to (e .number) past + resting (e .number) (final (new-with lot table) past) ≡ e .quantity)
+    (λ v. (e : Order) → Entered v e → traded-by (e .number) past + given-back-to (e .number) past + resting (e .number) (final (new-with lot table) past) ≡ e .quantity)
     (λ v h e p. (let k = h e p in let l = run-balance rank deal D lot (e .number) (new-with lot table) asks f in omega arith))
     past (once-only rank deal D lot (new-with lot table) asks f)

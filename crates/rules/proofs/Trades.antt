@@ -22,7 +22,7 @@ use Rattle.rules.specs.Books.{Queue, queue, good, Level}
 use Rattle.rules.specs.Quantities.{claims, of-order, of-level, of-side}
 use Rattle.rules.specs.Changes.{lowered, lose}
 use Rattle.rules.specs.Trading.{rows-of, dealt, setter-shares, dealing-shares, queue-of, step-shares, taken, with-queue, trade-price, Traded, trade-reached, trade-side}
-use Rattle.rules.specs.Runs.{returned-in, traded-in}
+use Rattle.rules.specs.Runs.{given-back-in, traded-in}
 use Rattle.rules.specs.Invariants.{Sound-queue, Sound-level}
 use Rattle.rules.proofs.Amounts.{AtMost, hit, lowered-of, interest-lowered, within-at-most, mask-at-most}
 use Rattle.allocation.proofs.InOrder.{in-order-under, sum-in-order}
@@ -51,7 +51,7 @@ rows-arriving n s a v [] (x ∷ xs) h = absurd h
 rows-arriving n s a v (p ∷ ps) [] h = grind (arith, tells)
 rows-arriving n s a v (p ∷ ps) (x ∷ xs) h = let ih = rows-arriving n s a v ps xs (h .1) in grind (arith, tells)
 
-rows-back : (n : ℕ) (s : Step) (a v : ℕ) (ps : List Part) (xs : List ℕ) → sum-of (returned-in n) (rows-of s a v ps xs) ≡ 0
+rows-back : (n : ℕ) (s : Step) (a v : ℕ) (ps : List Part) (xs : List ℕ) → sum-of (given-back-in n) (rows-of s a v ps xs) ≡ 0
 rows-back n s a v [] xs = refl
 rows-back n s a v (p ∷ ps) [] = refl
 rows-back n s a v (p ∷ ps) (x ∷ xs) = let ih = rows-back n s a v ps xs in grind (arith, tells)
@@ -138,7 +138,7 @@ pub record Even (n arriving was q : ℕ) (rows : List Row) (is left : ℕ) : Typ
   pub rest : was ≡ sum-of (as-resting n) rows + is
   pub came : cond (eqb arriving n) q 0 ≡ sum-of (as-arriving n) rows + cond (eqb arriving n) left 0
   pub less : left ≤ q
-  pub back : sum-of (returned-in n) rows ≡ 0
+  pub back : sum-of (given-back-in n) rows ≡ 0
   pub arrives : All (Arrives arriving) rows
 
 module _ (deal : Deal) (D : Lawful deal) (lot arriving : ℕ) where
@@ -173,7 +173,7 @@ module _ (deal : Deal) (D : Lawful deal) (lot arriving : ℕ) where
         rest = omega arith;
         came = grind arith;
         less = omega arith;
-        back = omega (arith, sum-of-append (returned-in n) mine (r .rows), rows-back n s arriving (l .price) (k .parts) (d .shares), ih .back);
+        back = omega (arith, sum-of-append (given-back-in n) mine (r .rows), rows-back n s arriving (l .price) (k .parts) (d .shares), ih .back);
         arrives = all-append (Arrives arriving) mine (r .rows) (rows-arrive s arriving (l .price) (k .parts) (d .shares)) (ih .arrives);
       }
 
@@ -209,7 +209,7 @@ module _ (deal : Deal) (D : Lawful deal) (lot arriving : ℕ) where
         rest = omega arith;
         came = omega arith;
         less = omega arith;
-        back = omega (arith, sum-of-append (returned-in n) (r .rows) (t .rows), a .back, b .back);
+        back = omega (arith, sum-of-append (given-back-in n) (r .rows) (t .rows), a .back, b .back);
         arrives = all-append (Arrives arriving) (r .rows) (t .rows) (a .arrives) (b .arrives);
       }
 

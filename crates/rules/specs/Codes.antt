@@ -13,6 +13,9 @@ use Rattle.rules.specs.declared.answers.Refusal.the-variants as Refusal
 use Rattle.rules.specs.declared.answers.Answer.{Answer}
 use Rattle.rules.specs.declared.answers.Answer.the-variants.{Accepted, Refused}
 use Rattle.allocation.specs.Rankings.{buyers-letter, sellers-letter}
+use Rattle.rules.specs.declared.answers.Row.{Row}
+use Rattle.rules.specs.declared.answers.Row.the-variants.{Trade, GivenBack}
+use Rattle.rules.specs.declared.answers.Columns.{Columns}
 
 -- B, S
 abbrev pub side-letter : Side → ℕ
@@ -57,15 +60,52 @@ refusal-number Refusal.NoOppositePrice = 25
 
 -- an accepted call answers 0
 abbrev pub answer-number : Answer → ℕ
-answer-number (Accepted traded returned) = 0
+answer-number (Accepted traded given-back) = 0
 answer-number (Refused r) = refusal-number r
 
 -- a refused call trades nothing and gives nothing back
 abbrev pub shares-traded : Answer → ℕ
-shares-traded (Accepted traded returned) = traded
+shares-traded (Accepted traded given-back) = traded
 shares-traded (Refused r) = 0
 
 -- shares given back
 abbrev pub shares-given-back : Answer → ℕ
-shares-given-back (Accepted traded returned) = returned
+shares-given-back (Accepted traded given-back) = given-back
 shares-given-back (Refused r) = 0
+
+-- ## Limits
+
+-- order numbers go up to this
+abbrev pub highest-number : ℕ
+highest-number = 999999
+
+-- participants are numbered from 1 to this
+abbrev pub most-participants : ℕ
+most-participants = 24
+
+-- an order has at most so many shares
+abbrev pub most-shares : ℕ
+most-shares = 500000
+
+-- prices go up to this, away prices too
+abbrev pub highest-price : ℕ
+highest-price = 99999999
+
+-- a round lot has at most so many shares
+abbrev pub largest-lot : ℕ
+largest-lot = 1000
+
+-- a book holds at most so many resting orders
+abbrev pub most-orders : ℕ
+most-orders = 128
+
+-- a report has at least so many rows
+abbrev pub report-rows : ℕ
+report-rows = 400
+
+-- ## Rows
+
+-- T and its step for a trade; G and - for what is given back, with arriving order and price 0
+abbrev pub row-columns : Row → Columns
+row-columns (Trade s r a v q) = record { letter = 84; step = step-letter s; order = r; arriving = a; price = v; quantity = q }
+row-columns (GivenBack n q) = record { letter = 71; step = 45; order = n; arriving = 0; price = 0; quantity = q }

@@ -28,7 +28,7 @@ pub record Outcome : Type 0 where
 
 -- an accepted call
 abbrev pub done : ℕ → ℕ → List Row → Book → Outcome
-done traded returned rs b = record { answer = Accepted traded returned; rows = rs; book = b }
+done traded given-back rs b = record { answer = Accepted traded given-back; rows = rs; book = b }
 
 -- ## Placing
 

@@ -20,6 +20,7 @@ use Rattle.rules.specs.Reserve.{is-reserve, runs-low}
 use Rattle.rules.specs.Refusals.{bad-number, bad-participant, bad-quantity, bad-price, bad-display, rests}
 use Rattle.rules.specs.Rules.{holds, rule, new-with}
 use Rattle.rules.specs.Tables.{Good-table}
+use Rattle.rules.specs.Codes.{most-orders}
 
 -- ## A queue and a level
 
@@ -98,7 +99,7 @@ pub record Admitted (lot : ℕ) (e : Order) : Type 0 where
 
 -- ## The book
 
--- no sell is as good for buyers as a buy's own price
+-- no sell price is within reach of a buy at its own price
 abbrev pub Uncrossed : Ranking → List Level → List Level → Type 0
 Uncrossed rank buys sells = All (λ l. All (λ m. good rank Sell (m .price) (l .price) ≡ false) sells) buys
 
@@ -110,7 +111,7 @@ pub record Sound-book (rank : Ranking) (b : Book) : Type 0 where
   pub sells : Sound-side rank (b .lot) (b .orders) Sell (b .sells)
   pub uncrossed : Uncrossed rank (b .buys) (b .sells)
   pub rising : Rising (b .last) (numbers (b .orders))
-  pub few : length (b .orders) ≤ 128
+  pub few : length (b .orders) ≤ most-orders
   pub admitted : All (Admitted (b .lot)) (b .orders)
   -- each order rests, and no more of it than it came with
   pub resting : All (λ e. (0 < resting (e .number) b) × (resting (e .number) b ≤ e .quantity)) (b .orders)

@@ -26,7 +26,7 @@ of-part n p = cond (eqb (p .order) n) (p .quantity) 0
 abbrev pub pieces : ℕ → List Part → List ℕ
 pieces n = map (of-part n)
 
--- what an order has in parts, at a price and on a side
+-- what an order has in some parts
 abbrev pub of-order : ℕ → List Part → ℕ
 of-order n = sum-of (of-part n)
 

@@ -19,6 +19,7 @@ use Rattle.rules.specs.Books.{Book, side, other, away}
 use Rattle.rules.specs.Quantities.{resting, best}
 use Rattle.rules.specs.Trading.{has-limit}
 use Rattle.rules.specs.Reserve.{is-reserve}
+use Rattle.rules.specs.Codes.{highest-number, most-participants, most-shares, highest-price, report-rows, largest-lot, most-orders}
 
 -- the first refusal whose test applies
 abbrev pub first : List (Refusal × Bool) → Option Refusal
@@ -38,19 +39,19 @@ none (Some x) = false
 
 -- an order number is 1 to 999,999
 abbrev pub bad-number : ℕ → Bool
-bad-number n = not (within 1 999999 n)
+bad-number n = not (within 1 highest-number n)
 
 -- a participant is 1 to 24
 abbrev pub bad-participant : ℕ → Bool
-bad-participant p = not (within 1 24 p)
+bad-participant p = not (within 1 most-participants p)
 
 -- a quantity is 1 to 500,000
 abbrev pub bad-quantity : ℕ → Bool
-bad-quantity n = not (within 1 500000 n)
+bad-quantity n = not (within 1 most-shares n)
 
 -- 0 for a market order; for any other 1 to 99,999,999, and from 10,000 up a multiple of 100
 abbrev pub bad-price : Kind → ℕ → Bool
-bad-price k v = cond (has-limit k) (not (within 1 99999999 v) || (leb 10000 v && not (eqb (v % 100) 0))) (not (eqb v 0))
+bad-price k v = cond (has-limit k) (not (within 1 highest-price v) || (leb 10000 v && not (eqb (v % 100) 0))) (not (eqb v 0))
 
 -- a positive multiple of the round lot up to the quantity for a reserve order; 0 for any other
 abbrev pub bad-display : ℕ → Kind → ℕ → ℕ → Bool
@@ -58,15 +59,15 @@ bad-display lot k n d = cond (is-reserve k) (not (within 1 n d && eqb (d % lot) 
 
 -- a report has room for 400 rows at least
 abbrev pub small-report : ℕ → Bool
-small-report room = ltb room 400
+small-report room = ltb room report-rows
 
 -- an away price is at most 99,999,999
 abbrev pub bad-away : ℕ → Bool
-bad-away v = ltb 99999999 v
+bad-away v = ltb highest-price v
 
 -- a round lot is 1 to 1,000
 abbrev pub bad-lot : ℕ → Bool
-bad-lot lot = not (within 1 1000 lot)
+bad-lot lot = not (within 1 largest-lot lot)
 
 -- ## The state of the book
 
@@ -125,7 +126,7 @@ rests Kind.Market = false
 
 -- 128 orders rest, and one more would
 abbrev pub no-place : Book → Order → Bool
-no-place b e = leb 128 (length (b .orders)) && rests (e .kind)
+no-place b e = leb most-orders (length (b .orders)) && rests (e .kind)
 
 -- a market order meets neither a best price nor an away price
 abbrev pub no-opposite : Book → Order → Bool

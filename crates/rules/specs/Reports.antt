@@ -3,7 +3,7 @@ use mathlib.Core.Path.{_≡_}
 use mathlib.Core.Bool.{true}
 use mathlib.Core.List.{List, []}
 use mathlib.Core.Logic.{_⊎_}
-use Prim.Native.Nat.{ℕ, _<_, _≤_}
+use Prim.Native.Nat.{ℕ, _<_, _≤_, _*_, _+_}
 use lib.ListN.{length}
 use Rattle.std.specs.shelf.Lists.{All}
 use Rattle.allocation.specs.Dealings.{Deal}
@@ -11,7 +11,7 @@ use Rattle.rules.specs.declared.calls.Call.{Call}
 use Rattle.rules.specs.declared.calls.Call.the-variants.{Open, Halt, Resume, Close, Quote, Enter, Cancel, Reduce}
 use Rattle.rules.specs.declared.answers.Row.{Row}
 use Rattle.rules.specs.declared.answers.Row.the-variants.{Trade, GivenBack}
-use Rattle.rules.specs.Codes.{answer-number, shares-traded, shares-given-back}
+use Rattle.rules.specs.Codes.{answer-number, shares-traded, shares-given-back, most-orders}
 use Rattle.rules.specs.Lists.{sum-of}
 use Rattle.rules.specs.Books.{Ranking, Book}
 use Rattle.rules.specs.Quantities.{resting}
@@ -30,9 +30,9 @@ abbrev pub most-rows : Call → ℕ
 most-rows Open = 0
 most-rows Halt = 0
 most-rows Resume = 0
-most-rows Close = 128
+most-rows Close = most-orders
 most-rows (Quote bid offer) = 0
-most-rows (Enter e) = 385
+most-rows (Enter e) = 3 * most-orders + 1
 most-rows (Cancel n) = 1
 most-rows (Reduce n m) = 1
 

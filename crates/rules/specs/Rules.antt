@@ -36,7 +36,7 @@ abbrev pub all-back : Book → List Order → List Row
 all-back b [] = []
 all-back b (e ∷ es) = GivenBack (e .number) (resting (e .number) b) ∷ all-back b es
 
--- the shares that a row trades, and those that it gives back
+-- the shares that a row trades
 abbrev pub row-traded : Row → ℕ
 row-traded (Trade s r a v q) = q
 row-traded (GivenBack n q) = 0

@@ -46,14 +46,14 @@ traded-in n (Trade s r a v q) = cond (eqb r n || eqb a n) q 0
 traded-in n (GivenBack o q) = 0
 
 -- what is given back counts for its order
-abbrev pub returned-in : ℕ → Row → ℕ
-returned-in n (Trade s r a v q) = 0
-returned-in n (GivenBack o q) = cond (eqb o n) q 0
+abbrev pub given-back-in : ℕ → Row → ℕ
+given-back-in n (Trade s r a v q) = 0
+given-back-in n (GivenBack o q) = cond (eqb o n) q 0
 
--- what an order traded, and was given back, in a run
+-- what an order traded in a run
 abbrev pub traded-by : ℕ → List Event → ℕ
 traded-by n = sum-of (λ v. sum-of (traded-in n) (v .did .rows))
 
 -- what it was given back
-abbrev pub returned-to : ℕ → List Event → ℕ
-returned-to n = sum-of (λ v. sum-of (returned-in n) (v .did .rows))
+abbrev pub given-back-to : ℕ → List Event → ℕ
+given-back-to n = sum-of (λ v. sum-of (given-back-in n) (v .did .rows))

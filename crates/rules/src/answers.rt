@@ -1,6 +1,6 @@
 //! What a call answers: accepted or refused, shares traded and given back, and the rows of its report.
 ghost use mathlib.Core.Path.{_≡_};
-ghost use Rattle.rules.specs.Codes.{refusal-number, answer-number, shares-traded, shares-given-back};
+ghost use Rattle.rules.specs.Codes.{refusal-number, answer-number, shares-traded, shares-given-back, row-columns};
 use super::Step;
 
 /// Why a call, or the making of a book, is refused.
@@ -61,6 +61,49 @@ pub enum Row {
         order: u32,
         quantity: u32,
     },
+}
+
+/// The columns of a row's line: letter, step or `-`, the order named first, the arriving order, price and quantity.
+#[derive(Clone, Copy)]
+pub struct Columns {
+    pub letter: char,
+    pub step: char,
+    pub order: u32,
+    pub arriving: u32,
+    pub price: u32,
+    pub quantity: u32,
+}
+
+impl Row {
+    /// What the row's line says. What is given back has no step, no arriving order and no price.
+    pub fn columns(self) -> Columns
+        ensures { λ r. ⌜ r ≡ row-columns self ⌝ }
+    {
+        match self {
+            Row::Trade {
+                step,
+                resting,
+                arriving,
+                price,
+                quantity,
+            } => Columns {
+                letter: 'T',
+                step: step.letter(),
+                order: resting,
+                arriving,
+                price,
+                quantity,
+            },
+            Row::GivenBack { order, quantity } => Columns {
+                letter: 'G',
+                step: '-',
+                order,
+                arriving: 0,
+                price: 0,
+                quantity,
+            },
+        }
+    }
 }
 
 impl Refusal {

@@ -6,6 +6,7 @@ mod orders;
 mod phases;
 
 pub use answers::Answer;
+pub use answers::Columns;
 pub use answers::Refusal;
 pub use answers::Row;
 pub use calls::Call;
