@@ -158,6 +158,7 @@ use Prim.Native.Nat.{ℕ}
 use lib.Dec.{leb}
 use Rattle.allocation.specs.Wheels.{wheel-with}
 use Rattle.allocation.specs.Dealings.{parity, time}
+use Rattle.allocation.specs.Rankings.{buyers-letter, sellers-letter, higher-is-better, lower-is-better}
 use Rattle.rules.specs.declared.orders.Side.{Side}
 use Rattle.rules.specs.declared.orders.Side.the-variants.{Buy, Sell}
 use Rattle.rules.specs.declared.orders.Kind.{Kind}
