@@ -1,0 +1,14 @@
+use mathlib.Core.Path.{_≡_}
+use Prim.Native.Nat.{_-_, _≤_}
+use lib.ListN.{length, drop}
+use Rattle.allocation.specs.Dealings.{sum}
+use Rattle.rules.specs.Quantities.{pieces}
+use Rattle.amounts.proofs.Loops.{late}
+use Rattle.amounts.proofs.sharing.to_order_latest_first.Given as given
+
+abbrev pub Inv-loop-i : given.InvT-loop-i
+Inv-loop-i l =
+    (drop (l .i) (l .shares) ≡ late (l .quantity) (pieces (l .order) (drop (l .i) (l .parts)))) × (l .left ≡ l .quantity - sum (pieces (l .order) (drop (l .i) (l .parts)))) × (l .i ≤ length (l .parts))
+
+abbrev pub μ-loop-i : given.MeasureT-loop-i
+μ-loop-i l = l .i

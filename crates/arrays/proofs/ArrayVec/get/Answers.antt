@@ -1,0 +1,18 @@
+use mathlib.Core.Path.{_≡_, sym, _∙_}
+use native.Mathlib.Omega.{arith}
+use Prim.Native.Nat.{_≤_, _<_}
+use lib.ListN.{length, getD}
+use borrow.Author.Needs.{needs}
+use Rattle.std.proofs.shelf.Lists.{length-take, getD-take, getD-default}
+use Rattle.arrays.proofs.ArrayVec.get.Needs as need
+
+pub offset-self-i : need.offset-self-i
+offset-self-i g c =
+    let v = c .args .self .now in
+    omega (arith, v .fits, c .pre, length-take (v .len) (v .items))
+
+pub returns : need.returns
+returns g c =
+    let v = c .args .self .now in
+    sym (getD-take (v .len) (v .items) (c .args .i) (getD (v .items) (c .args .i) (c .index-self-i .result)) (omega (arith, c .pre, length-take (v .len) (v .items)))
+    ∙ getD-default (v .items) (c .args .i) _ (c .index-self-i .result) (omega (arith, c .pre, v .long, length-take (v .len) (v .items))))

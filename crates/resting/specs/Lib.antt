@@ -1,0 +1,4 @@
+pub mod Earned
+pub mod Alone
+pub mod Unmarked
+pub mod Replenished

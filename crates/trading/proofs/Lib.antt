@@ -1,0 +1,5 @@
+pub mod Writing
+pub mod Stepping
+pub mod Walking
+pub mod Touring
+pub mod Bounded

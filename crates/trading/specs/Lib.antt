@@ -1,0 +1,4 @@
+pub mod Written
+pub mod Reached
+pub mod Steps
+pub mod Fits
