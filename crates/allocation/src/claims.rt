@@ -75,8 +75,8 @@ pub(crate) fn by_time<G: Grouping, C: Claimed>(
     shares: &mut [u32],
 )
     requires one_each { length shares.old ≡ length claims.now }
-    requires groups_there { All (λ c. group (claim c) < length allotted.old) claims.now }
-    ensures { shares.new ≡ time_shares (λ k. slice_index allotted.old k) (map (λ c. (group (claim c), (claim c).size)) claims.now) }
+    requires groups_there { All (λ c. G.group (C.claim c) < length allotted.old) claims.now }
+    ensures { shares.new ≡ time_shares (λ k. slice_index allotted.old k) (map (λ c. (G.group (C.claim c), (C.claim c).size)) claims.now) }
 {
     for i in 0..claims.len() {
         let claim = claims[i].claim();
@@ -87,7 +87,7 @@ pub(crate) fn by_time<G: Grouping, C: Claimed>(
 /// By time: each claim in order takes what it can of one quantity.
 pub fn in_order<C: Claimed>(quantity: u32, claims: &[C], shares: &mut [u32])
     requires { length shares.old ≡ length claims.now }
-    ensures { shares.new ≡ shares_in_order quantity (map (λ c. (claim c).size) claims.now) }
+    ensures { shares.new ≡ shares_in_order quantity (map (λ c. (C.claim c).size) claims.now) }
 {
     let mut allotted = [quantity];
     by_time::<Together, C>(claims, &mut allotted, shares);

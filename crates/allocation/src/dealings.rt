@@ -25,11 +25,11 @@ pub trait Dealing {
         shares: &mut [u32],
     )
         requires one_each { length shares.old ≡ length claims.now }
-        requires known { All (λ c. (claim c).participant < 25) claims.now }
-        requires fits { total (map claim claims.now) < 2 ^ 32 }
-        requires seated { Seated lot (wheel_of wheel.old) (λ p. interest p (map claim claims.now)) }
-        ensures shares { shares.new ≡ (meaning quantity (wheel_of wheel.old) lot (map claim claims.now)).shares }
-        ensures wheel { wheel_of wheel.new ≡ (meaning quantity (wheel_of wheel.old) lot (map claim claims.now)).wheel };
+        requires known { All (λ c. (C.claim c).participant < 25) claims.now }
+        requires fits { total (map C.claim claims.now) < 2 ^ 32 }
+        requires seated { Seated lot (wheel_of wheel.old) (λ p. interest p (map C.claim claims.now)) }
+        ensures shares { shares.new ≡ (meaning quantity (wheel_of wheel.old) lot (map C.claim claims.now)).shares }
+        ensures wheel { wheel_of wheel.new ≡ (meaning quantity (wheel_of wheel.old) lot (map C.claim claims.now)).wheel };
 
     /// No share above its claim; the shares sum to the lesser of quantity and claims;
     /// the wheel goes back seating exactly those with a claim left.

@@ -32,9 +32,9 @@ fn share_at(shares: &[u32], i: usize) -> u32
 
 /// What each participant has left of its claims after their shares. A claim past the last share has all of its size left.
 pub(crate) fn interests_left<C: Claimed>(claims: &[C], shares: &[u32]) -> [u32; PLACES]
-    requires known { All (λ c. (claim c).participant < 25) claims.now }
-    requires fits { total (map claim claims.now) < 2 ^ 32 }
-    ensures { (p : ℕ) → amounts result p ≡ interest p (claims_left (map claim claims.now) shares.now) }
+    requires known { All (λ c. (C.claim c).participant < 25) claims.now }
+    requires fits { total (map C.claim claims.now) < 2 ^ 32 }
+    ensures { (p : ℕ) → amounts result p ≡ interest p (claims_left (map C.claim claims.now) shares.now) }
 {
     let mut table = [0; PLACES];
     for i in 0..claims.len() {

@@ -11,7 +11,7 @@ use rules::Part;
 /// The parts that count take what they can, earliest first.
 fn in_order<S: Counts>(which: &S, quantity: u32, parts: &[Part], shares: &mut [u32])
     requires { length shares.old ≡ length parts.now }
-    ensures { shares.new ≡ shares_in_order quantity (map (size which.now) parts.now) }
+    ensures { shares.new ≡ shares_in_order quantity (map (S.size which.now) parts.now) }
 {
     let mut left = quantity;
     for i in 0..parts.len() {

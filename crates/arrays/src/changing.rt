@@ -28,7 +28,7 @@ impl<T: Copy, const N: usize> ArrayVec<T, N> {
     /// Changes the item at `i` where it stands.
     pub fn edit<E: Edit<T>>(&mut self, i: usize, how: &E)
         requires { i < length (items self.old) }
-        ensures { (d : T) → items self.new ≡ slice_set (items self.old) i (edited how.now (slice_index_or (items self.old) i d)) }
+        ensures { (d : T) → items self.new ≡ slice_set (items self.old) i (E.edited how.now (slice_index_or (items self.old) i d)) }
     {
         how.edit(&mut self.items[i]);
     }

@@ -1,5 +1,5 @@
 //! A list of bounded length in the front of an array: no heap, no allocation.
-ghost use Rattle.std.specs.Prelude.{◌≡◌, ◌≤◌, length};
+ghost use Rattle.std.specs.Prelude.{◌≡◌, ◌≤◌, ⊤, length};
 
 mod changing;
 mod moving;
@@ -7,6 +7,7 @@ mod reading;
 
 pub use changing::Edit;
 pub use moving::close;
+use std::alloc::AllocError;
 
 /// At most `N` items, in the front of an array.
 pub struct ArrayVec<T, const N: usize> {
@@ -14,6 +15,16 @@ pub struct ArrayVec<T, const N: usize> {
     len: usize,
     ghost fits: { len ≤ N },
     ghost long: { length items ≡ N },
+}
+
+impl<T: Copy, const N: usize> Clone for ArrayVec<T, N> {
+    ghost is_clone = { λ x y. y ≡ x };
+
+    ghost is_infallible = { λ _. ⊤ };
+
+    fn clone(&self) -> Result<Self, AllocError> {
+        Ok(*self)
+    }
 }
 
 impl<T: Copy, const N: usize> Copy for ArrayVec<T, N> {}

@@ -46,7 +46,7 @@ impl KeepsSeat for Interests {
 /// Moves those who keep their seats to the front, in their order, and counts them.
 fn filter<K: KeepsSeat>(seats: &mut [u8], who: &K) -> usize
     ensures count { result ≤ length seats.old }
-    ensures front { take result seats.new ≡ filter (keeps who.now) seats.old }
+    ensures front { take result seats.new ≡ filter (K.keeps who.now) seats.old }
 {
     let mut count = 0;
     for i in 0..seats.len() {
@@ -62,7 +62,7 @@ fn filter<K: KeepsSeat>(seats: &mut [u8], who: &K) -> usize
 impl Wheel {
     /// What the first seat will have used, once those who do not stay are gone.
     fn used_after<K: KeepsSeat>(&self, who: &K) -> u32
-        ensures { result ≡ (if first_stays (keeps who.now) (wheel_of self.now).seats then self.now.used else 0) }
+        ensures { result ≡ (if first_stays (K.keeps who.now) (wheel_of self.now).seats then self.now.used else 0) }
     {
         if self.len == 0 {
             return 0;
@@ -73,7 +73,7 @@ impl Wheel {
 
     /// Every seat is lost but those that are kept. If the first is lost, the next has used nothing.
     fn retain<K: KeepsSeat>(&mut self, who: &K)
-        ensures { wheel_of self.new ≡ retain (keeps who.now) (wheel_of self.old) }
+        ensures { wheel_of self.new ≡ retain (K.keeps who.now) (wheel_of self.old) }
     {
         self.used = self.used_after(who);
         let n = self.len;
@@ -83,9 +83,9 @@ impl Wheel {
     /// Every participant without interest left loses its seat, once the claims have had their shares.
     /// A claim past the last share has all of its size left.
     pub fn lose_seats_without_interest<C: Claimed>(&mut self, claims: &[C], shares: &[u32])
-        requires known { All (λ c. (claim c).participant < 25) claims.now }
-        requires fits { total (map claim claims.now) < 2 ^ 32 }
-        ensures { wheel_of self.new ≡ retain (λ p. ltb 0 (interest p (claims_left (map claim claims.now) shares.now))) (wheel_of self.old) }
+        requires known { All (λ c. (C.claim c).participant < 25) claims.now }
+        requires fits { total (map C.claim claims.now) < 2 ^ 32 }
+        ensures { wheel_of self.new ≡ retain (λ p. ltb 0 (interest p (claims_left (map C.claim claims.now) shares.now))) (wheel_of self.old) }
     {
         self.retain(&Interests(interests_left(claims, shares)));
     }

@@ -8,14 +8,14 @@ use Rattle.allocation.proofs.claims.by_time.Goals as goal
 
 pub draw-requires : goal.draw-requires
 draw-requires g c =
-    omega (arith, group_there (draws g) c.args.claims.now c.loop-i.i c.index-claims-i.result c.group.result (length c.args.allotted.now) c.requires.groups-there c.loop-i-test.true c.index-claims-i.is (c.group.ensures ∙ ap g.G.Grouping.group c.claim-claim.ensures))
+    omega (arith, group_there (draws g) c.args.claims.now c.loop-i.i c.index-claims-i.result c.group.result (length c.args.allotted.now) c.requires.groups_there c.loop-i-test.true c.index-claims-i.is (c.group.ensures ∙ ap g.G.Grouping.group c.claim-claim.ensures))
 
 pub loop-i-preserved : goal.loop-i-preserved
 loop-i-preserved g c =
     let cs = c.args.claims.now in
     let l = c.loop-i in
     let e = c.index-claims-i in
-    let there = group_there (draws g) cs l.i e.result c.group.result (length c.args.allotted.now) c.requires.groups-there c.loop-i-test.true e.is (c.group.ensures ∙ ap g.G.Grouping.group c.claim-claim.ensures) in
+    let there = group_there (draws g) cs l.i e.result c.group.result (length c.args.allotted.now) c.requires.groups_there c.loop-i-test.true e.is (c.group.ensures ∙ ap g.G.Grouping.group c.claim-claim.ensures) in
     by_time_more (draws g) cs l.i e.result l.allotted c.draw.new.allotted l.shares c.draw.result c.group.result c.claim-claim.result.size c.loop-i-test.true (omega arith) e.is (c.group.ensures ∙ ap g.G.Grouping.group c.claim-claim.ensures) (ap (λ x. x.size) c.claim-claim.ensures) (omega arith) c.draw.ensures.takes c.draw.ensures.after
     ∙ l.invariant
 

@@ -12,19 +12,19 @@ use Rattle.allocation.proofs.turns.take_turns.Goals as goal
 pub loop-left-init : goal.loop-left-init
 loop-left-init c = (c.requires, refl, λ p. omega (arith, zeros 25 p))
 
-pub deal-on-requires : goal.deal-on-requires
-deal-on-requires c =
+pub deal_on-requires : goal.deal_on-requires
+deal_on-requires c =
     let l = c.loop-left in
     record {
       seated = l.invariant.0;
-      going = or_from (eqb l.left 0) (no_seat (wheel_of l.wheel).seats) (ne_eqb l.left 0 (λ e. omega arith)) (sym c.is-empty.ensures ∙ c.if-not-is-empty.true);
+      going = or_from (eqb l.left 0) (no_seat (wheel_of l.wheel).seats) (ne_eqb l.left 0 (λ e. omega arith)) (sym c.is_empty.ensures ∙ c.if-not-is_empty.true);
       room = λ p. omega (arith, l.invariant.2 p, c.fits-interests p);
     }
 
 pub loop-left-preserved : goal.loop-left-preserved
 loop-left-preserved c =
     let l = c.loop-left in
-    let o = c.deal-on in
+    let o = c.deal_on in
     let lot = c.args.lot in
     let now = stage_of l.wheel l.interests l.left in
     let next = stage_of o.new.wheel o.new.interests o.result.0 in
@@ -34,11 +34,11 @@ loop-left-preserved c =
       λ p. omega (arith, l.invariant.2 p, o.ensures.same p),
     )
 
-pub returns-else-not-is-empty : goal.returns-else-not-is-empty
-returns-else-not-is-empty c =
+pub returns-else-not-is_empty : goal.returns-else-not-is_empty
+returns-else-not-is_empty c =
     let l = c.loop-left in
     let now = stage_of l.wheel l.interests l.left in
-    let done : over now ≡ true = or_right (eqb l.left 0) (no_seat (wheel_of l.wheel).seats) (sym c.is-empty.ensures ∙ c.if-not-is-empty.false) in
+    let done : over now ≡ true = or_right (eqb l.left 0) (no_seat (wheel_of l.wheel).seats) (sym c.is_empty.ensures ∙ c.if-not-is_empty.false) in
     let end = sym (at_end c.args.lot now done) ∙ l.invariant.1 in
     record { wheel = ap (λ s. s.wheel) end; each = ended_at now _ (amounts c.args.interests.now) (amounts l.taken) end l.invariant.2 }
 

@@ -6,8 +6,8 @@ use Rattle.allocation.proofs.Steps.{some_seat}
 use Rattle.allocation.proofs.Laps.{laps_within, laps_dealt, seats_more}
 use Rattle.allocation.proofs.turns.whole_laps.Goals as goal
 
-pub overflow-mul-each : goal.overflow-mul-each
-overflow-mul-each c =
+pub overflow_mul-each : goal.overflow_mul-each
+overflow_mul-each c =
     let n = c.min.result in
     let lot = c.args.lot in
     let len = length c.seats-seats.result.now in
@@ -16,13 +16,13 @@ overflow-mul-each c =
     let within : n * lot * len ≤ c.args.left = laps_within n lot len c.args.left (omega arith) in
     record { fits = omega (arith, within, seats_more (n * lot) len (omega arith), c.ranges.left.fits) }
 
-pub overflow-mul-result : goal.overflow-mul-result
-overflow-mul-result c =
+pub overflow_mul-result : goal.overflow_mul-result
+overflow_mul-result c =
     let within = laps_within c.min.result c.args.lot (length c.seats-seats.result.now) c.args.left (omega arith) in
     record { fits = omega (arith, within, c.ranges.left.fits) }
 
-pub overflow-sub-result : goal.overflow-sub-result
-overflow-sub-result c = laps_within c.min.result c.args.lot (length c.seats-seats.result.now) c.args.left (omega arith)
+pub overflow_sub-result : goal.overflow_sub-result
+overflow_sub-result c = laps_within c.min.result c.args.lot (length c.seats-seats.result.now) c.args.left (omega arith)
 
 pub returns : goal.returns
 returns c =
@@ -30,10 +30,10 @@ returns c =
     let n = c.min.result in
     let lot = c.args.lot in
     let seats = (wheel_of w).seats in
-    let low : (k : ℕ) → 0 < seats_of k seats → c.least-interest-least.result ≤ amounts c.args.interests.now k = λ k h. c.least-interest-least.ensures k (omega (arith, ap (seats_of k) c.seats-seats.ensures.seats)) in
-    let each : (k : ℕ) → amounts c.give-each.new.interests k ≡ amounts c.args.interests.now k - n * lot * seats_of k seats = λ k. c.give-each.ensures.less k ∙ ap (λ s. amounts c.args.interests.now k - n * lot * seats_of k s) c.seats-seats.ensures.seats in
+    let low : (k : ℕ) → 0 < seats_of k seats → c.least_interest-least.result ≤ amounts c.args.interests.now k = λ k h. c.least_interest-least.ensures k (omega (arith, ap (seats_of k) c.seats-seats.ensures.seats)) in
+    let each : (k : ℕ) → amounts c.give_each.new.interests k ≡ amounts c.args.interests.now k - n * lot * seats_of k seats = λ k. c.give_each.ensures.less k ∙ ap (λ s. amounts c.args.interests.now k - n * lot * seats_of k s) c.seats-seats.ensures.seats in
     record {
-      on = (n * length seats, laps_dealt lot w c.args.interests.now c.give-each.new.interests c.args.left n (length c.seats-seats.result.now) c.least-interest-least.result (omega arith) c.requires.seated (ap length c.seats-seats.ensures.seats) (omega arith) (omega (arith, ap (λ m. m / lot) c.saturating-sub.ensures)) low each);
-      same = c.give-each.ensures.same;
+      on = (n * length seats, laps_dealt lot w c.args.interests.now c.give_each.new.interests c.args.left n (length c.seats-seats.result.now) c.least_interest-least.result (omega arith) c.requires.seated (ap length c.seats-seats.ensures.seats) (omega arith) (omega (arith, ap (λ m. m / lot) c.saturating_sub.ensures)) low each);
+      same = c.give_each.ensures.same;
       most = omega arith;
     }

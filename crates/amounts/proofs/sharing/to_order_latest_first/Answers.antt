@@ -23,7 +23,7 @@ loop-i-preserved c =
     let was : c.loop-i.left ≡ c.args.quantity - sum (map f (drop (j + 1) ps)) = c.loop-i.invariant.1 ∙ ap (λ n. c.args.quantity - sum (map f (drop n ps))) (sym up) in
     let so : drop (j + 1) c.loop-i.shares ≡ late c.args.quantity (map f (drop (j + 1) ps)) = ap (λ n. drop n c.loop-i.shares) up ∙ c.loop-i.invariant.0 ∙ ap (λ n. late c.args.quantity (map f (drop n ps))) (sym up) in (
       ap (λ x. drop j (set c.loop-i.shares j x)) (c.min.ensures ∙ ap (min c.loop-i.left) c.size-size.ensures) ∙ late_more f ps j d lt c.args.quantity c.loop-i.left c.loop-i.shares (omega (arith, c.requires, c.loop-i.auto.shares)) was so,
-      c.saturating-sub-left.ensures ∙ ap (λ n. c.loop-i.left - n) c.size-size.ensures ∙ left_more f ps j d lt c.args.quantity c.loop-i.left was,
+      c.saturating_sub-left.ensures ∙ ap (λ n. c.loop-i.left - n) c.size-size.ensures ∙ left_more f ps j d lt c.args.quantity c.loop-i.left was,
       omega (arith, lt),
     )
 

@@ -5,7 +5,7 @@ use Rattle.amounts.proofs.summing.left_of.Goals as goal
 
 pub loop-x-preserved : goal.loop-x-preserved
 loop-x-preserved c =
-    ap (λ n. n - sum (drop (c.loop-x.x-index + 1) c.args.shares.now)) c.saturating-sub-left.ensures ∙ sum_more c.args.shares.now c.loop-x.x-index c.loop-x.left c.args.quantity c.loop-x-test.true c.loop-x.invariant
+    ap (λ n. n - sum (drop (c.loop-x.x-index + 1) c.args.shares.now)) c.saturating_sub-left.ensures ∙ sum_more c.args.shares.now c.loop-x.x-index c.loop-x.left c.args.quantity c.loop-x-test.true c.loop-x.invariant
 
 pub returns : goal.returns
 returns c = sum_all c.args.shares.now c.loop-x.x-index c.loop-x.left c.args.quantity c.loop-x-test.false c.loop-x.invariant

@@ -6,8 +6,8 @@ use Rattle.rules.specs.Books.{part}
 use Rattle.amounts.proofs.Loops.{of_more}
 use Rattle.amounts.proofs.summing.of_order.Goals as goal
 
-pub overflow-add-total : goal.overflow-add-total
-overflow-add-total c =
+pub overflow_add-total : goal.overflow_add-total
+overflow_add-total c =
     let next = of_more (of_part c.args.order) c.args.parts.now c.loop-i.i (part 0 0 0 false) c.loop-i.total c.loop-i-test.true c.loop-i.invariant in
     omega (arith, c.requires, c.size-total.ensures, next)
 

@@ -4,10 +4,10 @@ use Rattle.std.proofs.lemmas.Slice.{between_is}
 use Rattle.arrays.proofs.Fronts.{opened}
 use Rattle.arrays.proofs.ArrayVec.insert.Goals as goal
 
-pub invariant-of-self : goal.invariant-of-self
-invariant-of-self g c =
+pub invariant_of-self : goal.invariant_of-self
+invariant_of-self g c =
     let v = c.args.self.now in
-    (omega (arith, v.fits, v.long, c.requires.room, length-take v.len v.items), (c.open.ensures.long ∙ v.long, tt))
+    record { fits = omega (arith, v.fits, v.long, c.requires.room, length-take v.len v.items); long = c.open.ensures.long ∙ v.long }
 
 pub returns : goal.returns
 returns g c =

@@ -10,10 +10,10 @@ returns-then-i-j g c =
     let xs = items c.args.self.now in
     sym (ap (λ n. take c.args.i xs ++ drop n xs) (sym c.if-i-j.true) ∙ take-append-drop c.args.i xs)
 
-pub invariant-of-self : goal.invariant-of-self
-invariant-of-self g c =
+pub invariant_of-self : goal.invariant_of-self
+invariant_of-self g c =
     let v = c.args.self.now in
-    (omega (arith, v.fits), (c.close.ensures.long ∙ v.long, tt))
+    record { fits = omega (arith, v.fits); long = c.close.ensures.long ∙ v.long }
 
 pub returns : goal.returns
 returns g c =

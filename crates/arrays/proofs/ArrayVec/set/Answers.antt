@@ -3,8 +3,8 @@ use Rattle.std.proofs.lemmas.List.{length-take}
 use Rattle.arrays.proofs.Fronts.{set_front}
 use Rattle.arrays.proofs.ArrayVec.set.Goals as goal
 
-pub offset-bounds-self-i : goal.offset-bounds-self-i
-offset-bounds-self-i g c =
+pub offset_bounds-self-i : goal.offset_bounds-self-i
+offset_bounds-self-i g c =
     let v = c.args.self.now in
     omega (arith, v.fits, c.requires, length-take v.len v.items)
 

@@ -7,7 +7,7 @@ use Rattle.entering.proofs.refusing.is_full.Goals as goal
 
 pub returns-then-len-ge-ORDERS : goal.returns-then-len-ge-ORDERS
 returns-then-len-ge-ORDERS c =
-    c.can-rest.ensures
+    c.can_rest.ensures
     ∙ ap (λ t. t && rests c.args.order.kind) (sym (le-leb 128 c.len.result c.if-len-ge-ORDERS.true) ∙ many_rest (rows_of c.args.state.now.orders) c.len.result c.len.ensures.count)
 
 pub returns-else-len-ge-ORDERS : goal.returns-else-len-ge-ORDERS

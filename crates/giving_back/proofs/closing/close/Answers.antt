@@ -7,8 +7,8 @@ use Rattle.giving_back.proofs.Tabled.{rows_small}
 use Rattle.giving_back.proofs.Done.{close_follows}
 use Rattle.giving_back.proofs.closing.close.Goals as goal
 
-pub give-all-back-given-back-requires : goal.give-all-back-given-back-requires
-give-all-back-given-back-requires g c =
+pub give_all_back-given_back-requires : goal.give_all_back-given_back-requires
+give_all_back-given_back-requires g c =
     let s = c.args.state.now in
     record {
       small = rows_small (ranked_by g.K.Ranking.initial g.K.Ranking.good) (book_of s) (rows_of s.orders) refl c.requires.stands.sound c.requires.stands.tallied;
@@ -17,5 +17,5 @@ give-all-back-given-back-requires g c =
 
 pub returns : goal.returns
 returns g c = λ deal.
-    close_follows (ranked_by g.K.Ranking.initial g.K.Ranking.good) deal c.args.state.now c.requires.stands c.args.report.now c.give-all-back-given-back.new.report _ c.give-all-back-given-back.result c.len-rows.result c.requires.room c.requires.phase refl
-    c.clear-3.ensures c.clear.ensures c.clear-2.ensures c.give-all-back-given-back.ensures.total c.len-rows.ensures.count c.give-all-back-given-back.ensures.rows
+    close_follows (ranked_by g.K.Ranking.initial g.K.Ranking.good) deal c.args.state.now c.requires.stands c.args.report.now c.give_all_back-given_back.new.report _ c.give_all_back-given_back.result c.len-rows.result c.requires.room c.requires.phase refl
+    c.clear-3.ensures c.clear.ensures c.clear-2.ensures c.give_all_back-given_back.ensures.total c.len-rows.ensures.count c.give_all_back-given_back.ensures.rows

@@ -19,6 +19,6 @@ returns g c = λ d.
     let rank = ranked_by g.K.Ranking.initial g.K.Ranking.good in
     let row : Known b rows k r = known rank b rows refl c.requires.stands.sound c.requires.stands.tallied k r c.requires.row c.row.ensures in
     let is : r ≡ get_or rows k d = c.row.ensures ∙ get_or_default rows k r d c.requires.row in
-    subst (λ x. RestsAt b x.order c.find-price.result) is
-    (found_at b r.order row.unique rank g.met.K.Ranking.ordered c.requires.stands.sound row.some c.find-price.result (levels_of c.side.result.now) (nothing_at 0) c.side.ensures
-    c.find-price.ensures.within (c.find-price.ensures.found (nothing_at 0)) c.find-price.ensures.others)
+    subst (λ x. RestsAt b x.order c.find_price.result) is
+    (found_at b r.order row.unique rank g.met.K.Ranking.ordered c.requires.stands.sound row.some c.find_price.result (levels_of c.side.result.now) (nothing_at 0) c.side.ensures
+    c.find_price.ensures.within (c.find_price.ensures.found (nothing_at 0)) c.find_price.ensures.others)

@@ -44,11 +44,11 @@ returns g c = λ deal.
     let s = c.args.state.now in
     let r = c.row-row.result.now in
     let k = c.find-k.result in
-    let i = c.level-of-i.result in
+    let i = c.level_of-i.result in
     let m = c.args.quantity in
     let lt : k < length (rows_of s.orders) = omega (arith, c.if-k-len.false, c.len.ensures.count) in
-    let at = subst (λ x. RestsAt (book_of s) x.order i) (sym c.row-row.ensures) (c.level-of-i.ensures r) in
+    let at = subst (λ x. RestsAt (book_of s) x.order i) (sym c.row-row.ensures) (c.level_of-i.ensures r) in
     let named : r.order.number ≡ c.args.order = ap (λ x. x.order.number) c.row-row.ensures ∙ c.find-k.ensures.found r lt in
-    reduce_follows (ranked_by g.K.Ranking.initial g.K.Ranking.good) s c.requires.stands c.args.order k r lt c.row-row.ensures named i at (nothing_at 0) deal c.args.report.now c.give-back.new.report _ c.give-back.result
-    c.requires.number c.requires.room m (omega (arith, c.if-row-quantity.false)) c.requires.quantity c.requires.phase (book_of c.take-off-order.new.state) c.take-off-order.ensures.book refl
-    (c.decrement.ensures r ∙ ap (λ l. set l k (less (get_or l k r) m)) c.take-off-order.ensures.rows ∙ ap (λ x. set (rows_of s.orders) k (less x m)) (sym c.row-row.ensures)) c.give-back.ensures.reply c.give-back.ensures.rows
+    reduce_follows (ranked_by g.K.Ranking.initial g.K.Ranking.good) s c.requires.stands c.args.order k r lt c.row-row.ensures named i at (nothing_at 0) deal c.args.report.now c.give_back.new.report _ c.give_back.result
+    c.requires.number c.requires.room m (omega (arith, c.if-row-quantity.false)) c.requires.quantity c.requires.phase (book_of c.take_off_order.new.state) c.take_off_order.ensures.book refl
+    (c.decrement.ensures r ∙ ap (λ l. set l k (less (get_or l k r) m)) c.take_off_order.ensures.rows ∙ ap (λ x. set (rows_of s.orders) k (less x m)) (sym c.row-row.ensures)) c.give_back.ensures.reply c.give_back.ensures.rows

@@ -10,8 +10,8 @@ use Rattle.giving_back.specs.Backs.{backs}
 use Rattle.giving_back.proofs.Closed.{backs_few, next_back}
 use Rattle.giving_back.proofs.reports.give_all_back.Goals as goal
 
-pub overflow-add-total : goal.overflow-add-total
-overflow-add-total c =
+pub overflow_add-total : goal.overflow_add-total
+overflow_add-total c =
     let rows = rows_of c.args.orders.now in
     let next = next_back rows c.loop-i.i c.row-row.result.now (omega (arith, c.loop-i-test.true, c.len-i-end.ensures.count)) c.row-row.ensures in
     record { fits = omega (arith, c.loop-i.invariant.1, ap (sum_of row_given_back) next, backs_few rows c.requires.small, c.len-i-end.ensures.count, c.len-i-end.ensures.most) }

@@ -16,8 +16,8 @@ use Rattle.matching.specs.Underway.{Underway}
 use Rattle.matching.proofs.Arriving.{front_rows, fits_report, none_left, after, trade_left, trade_rows, trade_rest, opposite_ready, opposite_sorted, few_rows, rows_named, rows_enough, still_tallied, after_underway, nothing_renewed}
 use Rattle.matching.proofs.arrivals.match_order.Goals as goal
 
-pub trade-opposite-progress-requires : goal.trade-opposite-progress-requires
-trade-opposite-progress-requires g c =
+pub trade_opposite-progress-requires : goal.trade_opposite-progress-requires
+trade_opposite-progress-requires g c =
     let rank = ranked_by g.K.Ranking.initial g.K.Ranking.good in
     let O = g.met.K.Ranking.ordered in
     let D = g.met.D.Dealing.lawful in
@@ -28,16 +28,16 @@ trade-opposite-progress-requires g c =
       rows = omega (arith, c.requires.room, few_rows rank O g.D.Dealing.meaning D b c.args.order c.requires.stands.sound);
     }
 
-pub slice-bounds-settle-trades-end : goal.slice-bounds-settle-trades-end
-slice-bounds-settle-trades-end g c =
+pub slice_bounds-settle_trades-end : goal.slice_bounds-settle_trades-end
+slice_bounds-settle_trades-end g c =
     let rank = ranked_by g.K.Ranking.initial g.K.Ranking.good in
     let rows = (met rank g.D.Dealing.meaning c.args.order (arrived c.args.order (book_of c.args.state.now))).rows in
-    let t = c.trade-opposite-progress in
+    let t = c.trade_opposite-progress in
     let fits : t.result.rows ≤ length t.new.report = fits_report c.args.report.now rows t.new.report t.result.rows t.ensures.rows t.ensures.count in
     fits
 
-pub settle-trades-requires : goal.settle-trades-requires
-settle-trades-requires g c =
+pub settle_trades-requires : goal.settle_trades-requires
+settle_trades-requires g c =
     let rank = ranked_by g.K.Ranking.initial g.K.Ranking.good in
     let O = g.met.K.Ranking.ordered in
     let deal = g.D.Dealing.meaning in
@@ -45,7 +45,7 @@ settle-trades-requires g c =
     let b = book_of c.args.state.now in
     let e = c.args.order in
     let s = c.requires.stands.sound in
-    let t = c.trade-opposite-progress in
+    let t = c.trade_opposite-progress in
     let rows = (met rank deal e (arrived e b)).rows in
     let front : take (t.result.rows - 0) t.new.report ≡ rows = ap (take (t.result.rows - 0)) t.ensures.rows ∙ front_rows c.args.report.now rows t.result.rows t.ensures.count in
     record {
@@ -64,8 +64,8 @@ returns-then-n-gt0 g c =
     let b = book_of c.args.state.now in
     let e = c.args.order in
     let s = c.requires.stands.sound in
-    let t = c.trade-opposite-progress in
-    let u = c.settle-trades in
+    let t = c.trade_opposite-progress in
+    let u = c.settle_trades in
     let rs = rows_of c.args.state.now.orders in
     let rows = (met rank deal e (arrived e b)).rows in
     let front : take (t.result.rows - 0) t.new.report ≡ rows = ap (take (t.result.rows - 0)) t.ensures.rows ∙ front_rows c.args.report.now rows t.result.rows t.ensures.count in
@@ -89,7 +89,7 @@ returns-else-n-gt0 g c =
     let b = book_of c.args.state.now in
     let e = c.args.order in
     let s = c.requires.stands.sound in
-    let t = c.trade-opposite-progress in
+    let t = c.trade_opposite-progress in
     let rs = rows_of c.args.state.now.orders in
     let rows = (met rank deal e (arrived e b)).rows in
     let none : rows ≡ [] = none_left rows (omega (arith, t.ensures.count, c.if-n-gt0.false)) in

@@ -8,8 +8,8 @@ use Rattle.memory.specs.States.{book_of}
 use Rattle.matching.specs.Underway.{Underway}
 use Rattle.matching.proofs.arrivals.settle_trades.Goals as goal
 
-pub replenish-all-requires : goal.replenish-all-requires
-replenish-all-requires g c =
+pub replenish_all-requires : goal.replenish_all-requires
+replenish_all-requires g c =
     let rank = ranked_by g.K.Ranking.initial g.K.Ranking.good in
     let b = book_of c.args.state.now in
     let same : orders_of c.deduct.new.self ≡ b.orders = ap orders_in c.deduct.ensures ∙ same_orders (λ r. taken_from r.order.number c.args.rows.now) (rows_of c.args.state.now.orders) in
@@ -20,4 +20,4 @@ returns g c =
     let rank = ranked_by g.K.Ranking.initial g.K.Ranking.good in
     let b = book_of c.args.state.now in
     let same : orders_of c.deduct.new.self ≡ b.orders = ap orders_in c.deduct.ensures ∙ same_orders (λ r. taken_from r.order.number c.args.rows.now) (rows_of c.args.state.now.orders) in
-    record { book = c.replenish-all.ensures.book ∙ ap (λ os. replenish rank (with_orders os b)) same; table = ap rows_of c.replenish-all.ensures.orders ∙ c.deduct.ensures }
+    record { book = c.replenish_all.ensures.book ∙ ap (λ os. replenish rank (with_orders os b)) same; table = ap rows_of c.replenish_all.ensures.orders ∙ c.deduct.ensures }

@@ -6,5 +6,5 @@ pub returns : goal.returns
 returns c =
     record {
       side = c.opposite-side.ensures;
-      prices = λ rank. reach_is rank (book_of c.args.state.now) c.args.order c.opposite-side.result c.is-limited.result c.away.result c.opposite-side.ensures c.is-limited.ensures c.away.ensures;
+      prices = λ rank. reach_is rank (book_of c.args.state.now) c.args.order c.opposite-side.result c.is_limited.result c.away.result c.opposite-side.ensures c.is_limited.ensures c.away.ensures;
     }

@@ -18,8 +18,8 @@ loop-i-init g c =
 pub row-requires : goal.row-requires
 row-requires g c = omega (arith, c.loop-i-test.true, c.len-i-end.ensures.count, ap (λ t. length (rows_of t)) c.loop-i.invariant.0)
 
-pub renew-order-requires : goal.renew-order-requires
-renew-order-requires g c =
+pub renew_order-requires : goal.renew_order-requires
+renew_order-requires g c =
     let rank = ranked_by g.K.Ranking.initial g.K.Ranking.good in
     let O = g.met.K.Ranking.ordered in
     let b = book_of c.args.state.now in
@@ -42,9 +42,9 @@ loop-i-preserved g c =
     let same : x.orders ≡ b.orders = ap orders_of c.loop-i.invariant.0 in
     let lt : c.loop-i.i < length rs = omega (arith, c.loop-i-test.true, c.len-i-end.ensures.count, ap (λ t. length (rows_of t)) c.loop-i.invariant.0) in
     let long : c.loop-i.i < length b.orders = omega (arith, c.loop-i-test.true, c.len-i-end.ensures.count, length-map (rows_of c.args.state.now.orders) (λ r. r.order)) in (
-      c.renew-order.ensures.orders ∙ c.loop-i.invariant.0,
-      renewing_more rank g.met.K.Ranking.ordered b.lot b.orders c.loop-i.i b x (book_of c.renew-order.new.state) r.order long c.loop-i.invariant.1
-          (c.renew-order.ensures.book ∙ ap (replenish_order rank x) (order_at rs c.loop-i.i r lt c.row.ensures ∙ ap (λ es. get_or es c.loop-i.i r.order) same)),
+      c.renew_order.ensures.orders ∙ c.loop-i.invariant.0,
+      renewing_more rank g.met.K.Ranking.ordered b.lot b.orders c.loop-i.i b x (book_of c.renew_order.new.state) r.order long c.loop-i.invariant.1
+          (c.renew_order.ensures.book ∙ ap (replenish_order rank x) (order_at rs c.loop-i.i r lt c.row.ensures ∙ ap (λ es. get_or es c.loop-i.i r.order) same)),
     )
 
 pub returns : goal.returns

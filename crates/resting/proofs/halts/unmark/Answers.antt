@@ -5,8 +5,8 @@ use Rattle.resting.specs.Unmarked.{plain_level}
 use Rattle.resting.proofs.Mapping.{mapped, mapped_more, mapped_all, length_mapped}
 use Rattle.resting.proofs.halts.unmark.Goals as goal
 
-pub unmark-level-requires : goal.unmark-level-requires
-unmark-level-requires c =
+pub unmark_level-requires : goal.unmark_level-requires
+unmark_level-requires c =
     let ls = levels_of c.args.levels.now in
     omega (arith, c.loop-i-test.true, c.len-n.ensures.count, ap length c.loop-i.invariant, length_mapped plain_level ls c.loop-i.i)
 
@@ -15,7 +15,7 @@ loop-i-preserved c =
     let ls = levels_of c.args.levels.now in
     let i = c.loop-i.i in
     let z = nothing_at 0 in
-    c.unmark-level.ensures z
+    c.unmark_level.ensures z
     ∙ ap (λ ms. set ms i (plain_level (get_or ms i z))) c.loop-i.invariant
     ∙ mapped_more plain_level ls i z (omega (arith, c.loop-i-test.true, c.len-n.ensures.count))
 

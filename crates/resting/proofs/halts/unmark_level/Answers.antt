@@ -10,8 +10,8 @@ use Rattle.resting.proofs.halts.unmark_level.Goals as goal
 pub loop-k-init : goal.loop-k-init
 loop-k-init c = λ d. sym (set-get_or (levels_of c.args.levels.now) c.args.i d)
 
-pub unmark-part-requires : goal.unmark-part-requires
-unmark-part-requires c =
+pub unmark_part-requires : goal.unmark_part-requires
+unmark_part-requires c =
     let ls = levels_of c.args.levels.now in
     let i = c.args.i in
     let z = nothing_at 0 in
@@ -32,7 +32,7 @@ unmark-part-requires c =
 pub loop-k-preserved : goal.loop-k-preserved
 loop-k-preserved c = λ d.
     let ls = levels_of c.args.levels.now in
-    plain_more ls (levels_of c.loop-k.levels) (levels_of c.unmark-part.new.levels) c.args.i c.loop-k.k d (part 0 0 0 false) c.requires (omega (arith, c.loop-k-test.true, ap length (c.parts-n.ensures.value d))) (c.loop-k.invariant d) (c.unmark-part.ensures d (part 0 0 0 false))
+    plain_more ls (levels_of c.loop-k.levels) (levels_of c.unmark_part.new.levels) c.args.i c.loop-k.k d (part 0 0 0 false) c.requires (omega (arith, c.loop-k-test.true, ap length (c.parts-n.ensures.value d))) (c.loop-k.invariant d) (c.unmark_part.ensures d (part 0 0 0 false))
 
 pub returns : goal.returns
 returns c = λ d.

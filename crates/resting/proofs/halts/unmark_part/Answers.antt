@@ -8,8 +8,8 @@ use Rattle.resting.specs.Unmarked.{plain}
 use Rattle.resting.proofs.Low.{all_at}
 use Rattle.resting.proofs.halts.unmark_part.Goals as goal
 
-pub set-part-requires : goal.set-part-requires
-set-part-requires c =
+pub set_part-requires : goal.set_part-requires
+set_part-requires c =
     let ps = c.parts.result.now in
     let lt : c.args.k < length ps = omega (arith, c.requires.within, ap length (c.parts.ensures.value (nothing_at 0))) in
     let fair = all_at WithinLimits ps c.args.k (part 0 0 0 false) c.parts.ensures.limits lt in
@@ -22,5 +22,5 @@ returns c = λ d e.
     let k = c.args.k in
     let ps = c.parts.result.now in
     let lt : k < length ps = omega (arith, c.requires.within, ap length (c.parts.ensures.value (nothing_at 0))) in
-    c.set-part.ensures d
+    c.set_part.ensures d
     ∙ ap (λ (p : Part). set ls c.args.i (level l.price (queue (set l.shown.parts k (plain p)) l.shown.wheel) l.hidden)) (get_or_default ps k (part 0 0 0 false) e lt ∙ ap (λ (xs : List Part). get_or xs k e) (c.parts.ensures.value d))

@@ -5,17 +5,17 @@ use Rattle.levels.specs.Sides.{levels_of}
 use Rattle.resting.proofs.Off.{without_hidden, without_shown, off_both, twice}
 use Rattle.resting.proofs.offs.take_off.Goals as goal
 
-pub off-shown-requires : goal.off-shown-requires
-off-shown-requires c =
+pub off_shown-requires : goal.off_shown-requires
+off_shown-requires c =
     let ls = levels_of c.args.levels.now in
     record {
-      place = omega (arith, c.requires.place, ap length (c.off-hidden-left.ensures.level (nothing_at 0)), length-set ls c.args.i (without_hidden c.args.order c.args.quantity (get_or ls c.args.i (nothing_at 0))));
-      room = omega (arith, c.requires.room, c.off-hidden-left.auto.room);
+      place = omega (arith, c.requires.place, ap length (c.off_hidden-left.ensures.level (nothing_at 0)), length-set ls c.args.i (without_hidden c.args.order c.args.quantity (get_or ls c.args.i (nothing_at 0))));
+      room = omega (arith, c.requires.room, c.off_hidden-left.auto.room);
     }
 
 pub returns : goal.returns
 returns c = λ d.
     let ls = levels_of c.args.levels.now in
-    twice (without_hidden c.args.order c.args.quantity) (without_shown c.args.order c.off-hidden-left.result) ls (levels_of c.off-hidden-left.new.levels) (levels_of c.off-shown.new.levels) c.args.i d c.requires.place (c.off-hidden-left.ensures.level d) (c.off-shown.ensures d)
-    ∙ ap (λ m. set ls c.args.i (without_shown c.args.order m (without_hidden c.args.order c.args.quantity (get_or ls c.args.i d)))) (c.off-hidden-left.ensures.left d)
+    twice (without_hidden c.args.order c.args.quantity) (without_shown c.args.order c.off_hidden-left.result) ls (levels_of c.off_hidden-left.new.levels) (levels_of c.off_shown.new.levels) c.args.i d c.requires.place (c.off_hidden-left.ensures.level d) (c.off_shown.ensures d)
+    ∙ ap (λ m. set ls c.args.i (without_shown c.args.order m (without_hidden c.args.order c.args.quantity (get_or ls c.args.i d)))) (c.off_hidden-left.ensures.left d)
     ∙ ap (set ls c.args.i) (off_both c.args.order c.args.quantity (get_or ls c.args.i d))

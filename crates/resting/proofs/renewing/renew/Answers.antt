@@ -15,12 +15,12 @@ use Rattle.resting.proofs.Renewed.{any_at, replenished_at, replenished_not, low-
 use Rattle.resting.proofs.Off.{twice}
 use Rattle.resting.proofs.renewing.renew.Goals as goal
 
-pub join-later-part-requires : goal.join-later-part-requires
-join-later-part-requires g c =
+pub join_later_part-requires : goal.join_later_part-requires
+join_later_part-requires g c =
     let rank = ranked_by g.K.Ranking.initial g.K.Ranking.good in
     let e = c.args.order in
     let ls = levels_of c.args.levels.now in
-    let f = c.find-or-make-i in
+    let f = c.find_or_make-i in
     let ms = levels_of f.new.self in
     let same : on_price rank e.side e.price (λ l. l) ls ≡ ms = f.ensures.finds (λ l. l) (nothing_at 0) ∙ set-get_or ms f.result (nothing_at 0) in
     record {
@@ -35,31 +35,31 @@ join-later-part-requires g c =
       room = c.requires.room;
     }
 
-pub returns-then-not-is-low : goal.returns-then-not-is-low
-returns-then-not-is-low g c =
+pub returns-then-not-is_low : goal.returns-then-not-is_low
+returns-then-not-is_low g c =
     let rank = ranked_by g.K.Ranking.initial g.K.Ranking.good in
-    let f = c.find-or-make-i in
+    let f = c.find_or_make-i in
     let z = nothing_at 0 in
-    replenished_not rank c.args.lot c.args.away c.args.order (levels_of c.args.levels.now) (levels_of f.new.self) f.result z (λ h. f.ensures.finds h z) (sym (c.if-not-is-low.ensures z))
+    replenished_not rank c.args.lot c.args.away c.args.order (levels_of c.args.levels.now) (levels_of f.new.self) f.result z (λ h. f.ensures.finds h z) (sym (c.if-not-is_low.ensures z))
 
-pub show-new-part-requires : goal.show-new-part-requires
-show-new-part-requires g c =
+pub show_new_part-requires : goal.show_new_part-requires
+show_new_part-requires g c =
     let rank = ranked_by g.K.Ranking.initial g.K.Ranking.good in
     let e = c.args.order in
     let lot = c.args.lot in
-    let f = c.find-or-make-i in
+    let f = c.find_or_make-i in
     let z = nothing_at 0 in
     let ls = levels_of c.args.levels.now in
     let ms = levels_of f.new.self in
-    let js = levels_of c.join-later-part.new.levels in
-    let one : js ≡ joined rank lot e ls = c.join-later-part.ensures z ∙ sym (f.ensures.finds (join_hidden lot e.number) z) in
-    let lt : f.result < length js = omega (arith, f.ensures.within, ap length (c.join-later-part.ensures z), length-set ms f.result (join_hidden lot e.number (get_or ms f.result z))) in
+    let js = levels_of c.join_later_part.new.levels in
+    let one : js ≡ joined rank lot e ls = c.join_later_part.ensures z ∙ sym (f.ensures.finds (join_hidden lot e.number) z) in
+    let lt : f.result < length js = omega (arith, f.ensures.within, ap length (c.join_later_part.ensures z), length-set ms f.result (join_hidden lot e.number (get_or ms f.result z))) in
     record {
       place = lt;
       known = c.requires.known;
       small = c.requires.display;
       parts = λ low. (let few = c.requires.parts (ap (any (runs_low lot e.number)) (sym one) ∙ any_at (runs_low lot e.number) js f.result z lt low) in omega (arith, ap count one));
-      room = omega (arith, c.requires.room, c.join-later-part.auto.room);
+      room = omega (arith, c.requires.room, c.join_later_part.auto.room);
     }
 
 pub returns : goal.returns
@@ -67,15 +67,15 @@ returns g c =
     let rank = ranked_by g.K.Ranking.initial g.K.Ranking.good in
     let e = c.args.order in
     let lot = c.args.lot in
-    let f = c.find-or-make-i in
+    let f = c.find_or_make-i in
     let z = nothing_at 0 in
     let ls = levels_of c.args.levels.now in
     let ms = levels_of f.new.self in
-    let js = levels_of c.join-later-part.new.levels in
-    let one : js ≡ joined rank lot e ls = c.join-later-part.ensures z ∙ sym (f.ensures.finds (join_hidden lot e.number) z) in
-    let mark : c.earns-mark-mark.result ≡ earned rank e.side e.price (min e.display (hidden_of e.number (joined rank lot e ls))) lot c.args.away (joined rank lot e ls) =
-    c.earns-mark-mark.ensures
-    ∙ ap (λ k. earned rank e.side e.price k lot c.args.away js) c.size-to-show-n.ensures
+    let js = levels_of c.join_later_part.new.levels in
+    let one : js ≡ joined rank lot e ls = c.join_later_part.ensures z ∙ sym (f.ensures.finds (join_hidden lot e.number) z) in
+    let mark : c.earns_mark-mark.result ≡ earned rank e.side e.price (min e.display (hidden_of e.number (joined rank lot e ls))) lot c.args.away (joined rank lot e ls) =
+    c.earns_mark-mark.ensures
+    ∙ ap (λ k. earned rank e.side e.price k lot c.args.away js) c.size_to_show-n.ensures
     ∙ ap (λ (xs : List Level). earned rank e.side e.price (min e.display (hidden_of e.number xs)) lot c.args.away xs) one in
-    twice (join_hidden lot e.number) (show_anew lot e c.earns-mark-mark.result) ms js (levels_of c.show-new-part.new.levels) f.result z f.ensures.within (c.join-later-part.ensures z) (c.show-new-part.ensures z)
-    ∙ replenished_at rank lot c.args.away e ls ms f.result z (λ h. f.ensures.finds h z) c.earns-mark-mark.result mark
+    twice (join_hidden lot e.number) (show_anew lot e c.earns_mark-mark.result) ms js (levels_of c.show_new_part.new.levels) f.result z f.ensures.within (c.join_later_part.ensures z) (c.show_new_part.ensures z)
+    ∙ replenished_at rank lot c.args.away e ls ms f.result z (λ h. f.ensures.finds h z) c.earns_mark-mark.result mark

@@ -12,12 +12,12 @@ use Rattle.resting.specs.Replenished.{joined, replenished}
 use Rattle.resting.proofs.Refilled.{level_of_side, length_on_price, count_set, join_few}
 use Rattle.resting.proofs.replenishing.replenish.Goals as goal
 
-pub join-later-part-requires : goal.join-later-part-requires
-join-later-part-requires g c =
+pub join_later_part-requires : goal.join_later_part-requires
+join_later_part-requires g c =
     let rank = ranked_by g.K.Ranking.initial g.K.Ranking.good in
     let e = c.args.order in
     let ls = levels_of c.args.levels.now in
-    let f = c.find-or-make-i in
+    let f = c.find_or_make-i in
     let ms = levels_of f.new.self in
     let same : on_price rank e.side e.price (λ l. l) ls ≡ ms = f.ensures.finds (λ l. l) (nothing_at 0) ∙ set-get_or ms f.result (nothing_at 0) in
     record {
@@ -32,12 +32,12 @@ join-later-part-requires g c =
       room = c.requires.room;
     }
 
-pub find-or-make-k-requires : goal.find-or-make-k-requires
-find-or-make-k-requires g c =
+pub find_or_make-k-requires : goal.find_or_make-k-requires
+find_or_make-k-requires g c =
     let rank = ranked_by g.K.Ranking.initial g.K.Ranking.good in
     let e = c.args.order in
     let ls = levels_of c.args.levels.now in
-    let f = c.find-or-make-i in
+    let f = c.find_or_make-i in
     let ms = levels_of f.new.self in
     let z = nothing_at 0 in
     let same : on_price rank e.side e.price (λ l. l) ls ≡ ms = f.ensures.finds (λ l. l) z ∙ set-get_or ms f.result z in
@@ -46,30 +46,30 @@ find-or-make-k-requires g c =
       c.requires.prices,
       length_on_price rank e.side e.price (λ l. l) ls,
       ap length same,
-      ap length (c.join-later-part.ensures z),
+      ap length (c.join_later_part.ensures z),
       length-set ms f.result (join_hidden c.args.lot e.number (get_or ms f.result z)),
     )
 
-pub show-new-part-requires : goal.show-new-part-requires
-show-new-part-requires g c =
+pub show_new_part-requires : goal.show_new_part-requires
+show_new_part-requires g c =
     let e = c.args.order in
-    let f = c.find-or-make-i in
+    let f = c.find_or_make-i in
     let ms = levels_of f.new.self in
     let z = nothing_at 0 in
     let l = get_or ms f.result z in
     record {
-      place = c.find-or-make-k.ensures.within;
+      place = c.find_or_make-k.ensures.within;
       known = c.requires.known;
       small = c.requires.display;
       parts = omega (
         arith,
         c.requires.parts,
-        c.find-or-make-k.ensures.parts,
+        c.find_or_make-k.ensures.parts,
         f.ensures.parts,
-        ap count (c.join-later-part.ensures z),
+        ap count (c.join_later_part.ensures z),
         count_set ms f.result z (join_hidden c.args.lot e.number l) f.ensures.within (join_few c.args.lot e.number l),
       );
-      room = omega (arith, c.requires.room, c.join-later-part.auto.room);
+      room = omega (arith, c.requires.room, c.join_later_part.auto.room);
     }
 
 pub returns : goal.returns
@@ -79,13 +79,13 @@ returns g c =
     let lot = c.args.lot in
     let z = nothing_at 0 in
     let ls = levels_of c.args.levels.now in
-    let js = levels_of c.join-later-part.new.levels in
-    let one : js ≡ joined rank lot e ls = c.join-later-part.ensures z ∙ sym (c.find-or-make-i.ensures.finds (join_hidden lot e.number) z) in
-    let mark : c.earns-mark-mark.result ≡ earned rank e.side e.price (min e.display (hidden_of e.number (joined rank lot e ls))) lot c.args.away (joined rank lot e ls) =
-    c.earns-mark-mark.ensures
-    ∙ ap (λ k. earned rank e.side e.price k lot c.args.away js) c.size-to-show-n.ensures
+    let js = levels_of c.join_later_part.new.levels in
+    let one : js ≡ joined rank lot e ls = c.join_later_part.ensures z ∙ sym (c.find_or_make-i.ensures.finds (join_hidden lot e.number) z) in
+    let mark : c.earns_mark-mark.result ≡ earned rank e.side e.price (min e.display (hidden_of e.number (joined rank lot e ls))) lot c.args.away (joined rank lot e ls) =
+    c.earns_mark-mark.ensures
+    ∙ ap (λ k. earned rank e.side e.price k lot c.args.away js) c.size_to_show-n.ensures
     ∙ ap (λ (xs : List Level). earned rank e.side e.price (min e.display (hidden_of e.number xs)) lot c.args.away xs) one in
-    c.show-new-part.ensures z
-    ∙ sym (c.find-or-make-k.ensures.finds (show_anew lot e c.earns-mark-mark.result) z)
+    c.show_new_part.ensures z
+    ∙ sym (c.find_or_make-k.ensures.finds (show_anew lot e c.earns_mark-mark.result) z)
     ∙ ap (λ m. on_price rank e.side e.price (show_anew lot e m) js) mark
     ∙ ap (on_price rank e.side e.price (show_anew lot e (earned rank e.side e.price (min e.display (hidden_of e.number (joined rank lot e ls))) lot c.args.away (joined rank lot e ls)))) one

@@ -10,7 +10,7 @@ pub loop-i-preserved : goal.loop-i-preserved
 loop-i-preserved c =
     let ls = levels_of c.args.levels.now in
     let n = c.args.order in
-    let left : c.saturating-sub-left.result ≡ c.loop-i.left - of_order n (get_or ls c.loop-i.i (nothing_at 0)).hidden.parts = c.saturating-sub-left.ensures ∙ ap (λ k. c.loop-i.left - k) (c.hidden-at.ensures (nothing_at 0)) in (
+    let left : c.saturating_sub-left.result ≡ c.loop-i.left - of_order n (get_or ls c.loop-i.i (nothing_at 0)).hidden.parts = c.saturating_sub-left.ensures ∙ ap (λ k. c.loop-i.left - k) (c.hidden_at.ensures (nothing_at 0)) in (
       ap (λ k. k - hidden_of n (drop (c.loop-i.i + 1) ls)) left
           ∙ less_more (λ (l : Level). of_order n l.hidden.parts) ls c.loop-i.i (nothing_at 0) c.loop-i.left c.args.display (omega (arith, c.loop-i-test.true, c.len-i-end.ensures.count)) c.loop-i.invariant.0,
       omega (arith, left, c.loop-i.invariant.1),

@@ -3,7 +3,7 @@ use Rattle.std.proofs.lemmas.List.{length-set, get_or-set_same, length-take}
 use Rattle.allocation.specs.ByTime.{shares_in_order}
 use Rattle.rules.specs.Books.{Level, part, level, queue, nothing_at}
 use Rattle.rules.specs.Changes.{lose, put}
-use Rattle.rules.specs.Quantities.{pieces, of-order}
+use Rattle.rules.specs.Quantities.{pieces, of_order}
 use Rattle.rules.specs.Reserve.{show_anew}
 use Rattle.rules.specs.declared.orders.Part.{Part}
 use Rattle.levels.specs.Sides.{levels_of}
@@ -11,16 +11,16 @@ use Rattle.resting.proofs.Off.{twice}
 use Rattle.resting.proofs.Low.{of_total, show_none, show_some, new_shown, less_hidden, same_level}
 use Rattle.resting.proofs.reserves.show_new_part.Goals as goal
 
-pub returns-then-not-is-low : goal.returns-then-not-is-low
-returns-then-not-is-low c = λ d.
+pub returns-then-not-is_low : goal.returns-then-not-is_low
+returns-then-not-is_low c = λ d.
     let ls = levels_of c.args.levels.now in
-    same_level ls c.args.i d (show_anew c.args.lot c.args.order c.args.mark) (show_none c.args.lot c.args.order c.args.mark (get_or ls c.args.i d) (sym (c.if-not-is-low.ensures d)))
+    same_level ls c.args.i d (show_anew c.args.lot c.args.order c.args.mark) (show_none c.args.lot c.args.order c.args.mark (get_or ls c.args.i d) (sym (c.if-not-is_low.ensures d)))
 
-pub of-order-requires : goal.of-order-requires
-of-order-requires c = omega (arith, of_total c.args.order.number c.parts.result.now, c.parts.ensures.fits)
+pub of_order-requires : goal.of_order-requires
+of_order-requires c = omega (arith, of_total c.args.order.number c.parts.result.now, c.parts.ensures.fits)
 
-pub off-hidden-requires : goal.off-hidden-requires
-off-hidden-requires c =
+pub off_hidden-requires : goal.off_hidden-requires
+off_hidden-requires c =
     let ls = levels_of c.args.levels.now in
     let l = get_or ls c.args.i (nothing_at 0) in
     record {
@@ -33,8 +33,8 @@ returns c = λ d.
     let ls = levels_of c.args.levels.now in
     let e = c.args.order in
     let l = get_or ls c.args.i d in
-    let n : c.min-n.result ≡ min e.display (of-order e.number l.hidden.parts) = c.min-n.ensures ∙ ap (min e.display) (c.of-order.ensures ∙ ap (of-order e.number) (c.parts.ensures.value d)) in
-    twice (λ l. level l.price (put (part e.number e.participant c.min-n.result c.args.mark) l.shown) l.hidden) (less_hidden e.number c.min-n.result) ls (levels_of c.put.new.self) (levels_of c.off-hidden.new.levels) c.args.i d c.requires.place
-    (c.put.ensures d) (c.off-hidden.ensures.level d)
+    let n : c.min-n.result ≡ min e.display (of_order e.number l.hidden.parts) = c.min-n.ensures ∙ ap (min e.display) (c.of_order.ensures ∙ ap (of_order e.number) (c.parts.ensures.value d)) in
+    twice (λ l. level l.price (put (part e.number e.participant c.min-n.result c.args.mark) l.shown) l.hidden) (less_hidden e.number c.min-n.result) ls (levels_of c.put.new.self) (levels_of c.off_hidden.new.levels) c.args.i d c.requires.place
+    (c.put.ensures d) (c.off_hidden.ensures.level d)
     ∙ ap (λ m. set ls c.args.i (less_hidden e.number m (level l.price (put (part e.number e.participant m c.args.mark) l.shown) l.hidden))) n
-    ∙ ap (set ls c.args.i) (show_some c.args.lot e c.args.mark l (sym (c.if-not-is-low.ensures d)))
+    ∙ ap (set ls c.args.i) (show_some c.args.lot e c.args.mark l (sym (c.if-not-is_low.ensures d)))

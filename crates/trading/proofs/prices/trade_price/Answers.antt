@@ -7,10 +7,10 @@ use Rattle.trading.proofs.prices.trade_price.Goals as goal
 
 pub loop-j-init : goal.loop-j-init
 loop-j-init g c =
-    walk_none g.D.Dealing.meaning c.args.terms.lot c.args.terms.arriving c.args.table.now c.args.i (levels_of c.args.levels.now) c.args.so-far.left c.args.report.now c.args.so-far.rows c.requires.ready
+    walk_none g.D.Dealing.meaning c.args.terms.lot c.args.terms.arriving c.args.table.now c.args.i (levels_of c.args.levels.now) c.args.so_far.left c.args.report.now c.args.so_far.rows c.requires.ready
 
-pub trade-step-now-requires : goal.trade-step-now-requires
-trade-step-now-requires g c =
+pub trade_step-now-requires : goal.trade_step-now-requires
+trade_step-now-requires g c =
     record {
       place = walk_place c.loop-j.invariant c.requires.place c.requires.rows;
       ready = c.loop-j.invariant.ready;
@@ -21,7 +21,7 @@ trade-step-now-requires g c =
 pub loop-j-preserved : goal.loop-j-preserved
 loop-j-preserved g c =
     walk_more c.loop-j.invariant c.requires.place c.requires.rows (get_or c.args.table.now c.loop-j.j Setter) c.loop-j-test.true (get_or_default c.args.table.now c.loop-j.j _ Setter c.loop-j-test.true) g.met.D.Dealing.lawful _ _ _ _
-    c.trade-step-now.ensures.level c.trade-step-now.ensures.left c.trade-step-now.ensures.rows c.trade-step-now.ensures.count
+    c.trade_step-now.ensures.level c.trade_step-now.ensures.left c.trade_step-now.ensures.rows c.trade_step-now.ensures.count
 
 pub returns : goal.returns
 returns g c =

@@ -6,8 +6,8 @@ use Rattle.trading.proofs.Touring.{tour_none, tour_ready, tour_room, tour_more, 
 use Rattle.trading.proofs.prices.trade_side.Goals as goal
 use Rattle.trading.proofs.prices.trade_side.Goals.{then-has, else-has}
 
-pub trade-price-now-requires : goal.trade-price-now-requires
-trade-price-now-requires g c =
+pub trade_price-now-requires : goal.trade_price-now-requires
+trade_price-now-requires g c =
     let lt : c.loop-i.i < length (levels_of c.loop-i.levels) = omega (arith, c.len.ensures.count) in
     let reach = reached (ranked_by g.K.Ranking.initial g.K.Ranking.good) c.args.reach in
     record {
@@ -27,7 +27,7 @@ loop-i-preserved g c =
     elim c.if-has.branch [
       | then-has w ↦
           tour_more c.loop-i.invariant c.requires.rows lt (ap reach (sym (c.price.ensures (nothing_at 0))) ∙ sym w.if-has.ensures) (levels_of c.if-has.levels) c.if-has.now.left c.if-has.report c.if-has.now.rows
-          (ap levels_of w.levels-is ∙ w.trade-price-now.ensures.level) (ap (λ x. x.left) w.now-is ∙ w.trade-price-now.ensures.left) (w.report-is ∙ w.trade-price-now.ensures.rows) (ap (λ x. x.rows) w.now-is ∙ w.trade-price-now.ensures.count)
+          (ap levels_of w.levels-is ∙ w.trade_price-now.ensures.level) (ap (λ x. x.left) w.now-is ∙ w.trade_price-now.ensures.left) (w.report-is ∙ w.trade_price-now.ensures.rows) (ap (λ x. x.rows) w.now-is ∙ w.trade_price-now.ensures.count)
       | else-has w ↦
           tour_past c.loop-i.invariant c.requires.rows lt (ap reach (sym (c.price.ensures (nothing_at 0))) ∙ sym w.if-has.ensures) (levels_of c.if-has.levels) c.if-has.now.left c.if-has.report c.if-has.now.rows
           (ap levels_of w.levels-is) (ap (λ x. x.left) w.now-is) w.report-is (ap (λ x. x.rows) w.now-is)

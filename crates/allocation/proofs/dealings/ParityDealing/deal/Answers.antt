@@ -15,15 +15,15 @@ use Rattle.allocation.proofs.dealings.ParityDealing.deal.Goals as goal
 whole : (cs : List Claim) (table : List ℕ) → ((p : ℕ) → amounts table p ≡ interest p (claims_left cs [])) → amounts table ≡ (λ p. interest p cs)
 whole cs table h = fun_ext (λ p. h p ∙ ap (interest p) (left_none cs))
 
-pub take-turns-taken-requires : goal.take-turns-taken-requires
-take-turns-taken-requires g c =
+pub take_turns-taken-requires : goal.take_turns-taken-requires
+take_turns-taken-requires g c =
     let cs = map g.C.Claimed.claim c.args.claims.now in
-    let same = whole cs c.interests-left-interests.result c.interests-left-interests.ensures in
+    let same = whole cs c.interests_left-interests.result c.interests_left-interests.ensures in
     subst (λ (f : ℕ → ℕ). Seated c.args.lot (wheel_of c.args.wheel.now) f) (sym same) c.requires.seated
 
-pub by-time-requires : goal.by-time-requires
-by-time-requires g c =
-    let long : length c.take-turns-taken.result ≡ 25 = search rules in
+pub by_time-requires : goal.by_time-requires
+by_time-requires g c =
+    let long : length c.take_turns-taken.result ≡ 25 = search rules in
     record {
       one_each = c.requires.one_each;
       groups_there = subst (λ (n : ℕ). All (λ x. (g.C.Claimed.claim x).participant < n) c.args.claims.now) (sym long) c.requires.known;
@@ -36,11 +36,11 @@ returns g c =
     let w = wheel_of c.args.wheel.now in
     let q = c.args.quantity in
     let R = c.args.lot in
-    let t = c.take-turns-taken in
+    let t = c.take_turns-taken in
     let from : (ℕ → ℕ) → Stage = λ h. record { wheel = w; interests = h; quantity = q } in
-    let same = whole cs c.interests-left-interests.result c.interests-left-interests.ensures in
+    let same = whole cs c.interests_left-interests.result c.interests_left-interests.ensures in
     let given : amounts t.result ≡ (λ p. interest p cs - (turns R q (from (λ p. interest p cs))).interests p) = fun_ext (λ p. t.ensures.each p ∙ ap (λ h. h p - (turns R q (from h)).interests p) same) in
     record {
-      shares = c.by-time.ensures ∙ ap (time_shares (amounts t.result)) (sym (map-map by_participant f c.args.claims.now)) ∙ ap (λ h. time_shares h (map by_participant cs)) given;
+      shares = c.by_time.ensures ∙ ap (time_shares (amounts t.result)) (sym (map-map by_participant f c.args.claims.now)) ∙ ap (λ h. time_shares h (map by_participant cs)) given;
       wheel = t.ensures.wheel ∙ ap (λ h. (turns R q (from h)).wheel) same;
     }

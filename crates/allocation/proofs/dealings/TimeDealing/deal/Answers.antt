@@ -10,8 +10,8 @@ pub returns : goal.returns
 returns g c =
     let f = g.C.Claimed.claim in
     let cs = map f c.args.claims.now in
-    let shares = c.in-order.ensures ∙ ap (shares_in_order c.args.quantity) (sym (map-map (λ x. x.size) f c.args.claims.now)) in
+    let shares = c.in_order.ensures ∙ ap (shares_in_order c.args.quantity) (sym (map-map (λ x. x.size) f c.args.claims.now)) in
     record {
       shares = shares;
-      wheel = c.lose-seats-without-interest.ensures ∙ ap (λ xs. retain (λ p. ltb 0 (interest p (claims_left cs xs))) (wheel_of c.args.wheel.now)) shares;
+      wheel = c.lose_seats_without_interest.ensures ∙ ap (λ xs. retain (λ p. ltb 0 (interest p (claims_left cs xs))) (wheel_of c.args.wheel.now)) shares;
     }

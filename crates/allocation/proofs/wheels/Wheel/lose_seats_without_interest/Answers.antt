@@ -5,4 +5,4 @@ use Rattle.allocation.specs.Memory.{wheel_of}
 use Rattle.allocation.proofs.wheels.Wheel.lose_seats_without_interest.Goals as goal
 
 pub returns : goal.returns
-returns g c = c.retain.ensures ∙ ap (λ t. retain t (wheel_of c.args.self.now)) (fun_ext (λ p. ap (ltb 0) (c.interests-left.ensures p)))
+returns g c = c.retain.ensures ∙ ap (λ t. retain t (wheel_of c.args.self.now)) (fun_ext (λ p. ap (ltb 0) (c.interests_left.ensures p)))

@@ -4,7 +4,7 @@ use Rattle.allocation.specs.Wheels.{wheel_with}
 use Rattle.allocation.proofs.Room.{OnceEach, room, last_seat}
 use Rattle.allocation.proofs.wheels.Wheel.take_last_seat.Goals as goal
 
-module _ (c : goal.After-way-told·1) where
+module _ (c : goal.After-way_told-1) where
   sits : OnceEach (take c.args.self.now.len c.args.self.now.seats)
   sits = record { once = c.args.self.now.once; known = c.args.self.now.known }
 
@@ -18,14 +18,14 @@ module _ (c : goal.After-way-told·1) where
 pub bounds-self-self : goal.bounds-self-self
 bounds-self-self c = space c
 
-pub invariant-of-self : goal.invariant-of-self
-invariant-of-self c =
+pub invariant_of-self : goal.invariant_of-self
+invariant_of-self c =
     let w = c.args.self.now in
     let p = c.args.participant in
     let long : length w.seats ≡ 24 = search rules in
     let more = take_more_set w.seats w.len p (omega (arith, space c)) in
     let s : OnceEach (take (w.len + 1) (set w.seats w.len p)) = subst OnceEach (sym more) (last_seat (take w.len w.seats) p c.requires.known.0 c.requires.known.1 c.requires.away (sits c)) in
-    (omega (arith, space c), (s.once, ((λ e. absurd (omega arith)), (s.known, tt))))
+    record { fits = omega (arith, space c); once = s.once; empty = λ e. absurd (omega arith); known = s.known }
 
 pub returns : goal.returns
 returns c =

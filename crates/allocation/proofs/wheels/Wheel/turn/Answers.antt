@@ -15,8 +15,8 @@ returns c =
       taken = omega arith;
       left = refl;
       after = elim c.if-taken-interest.branch [
-        | then-taken-interest v ↦ ap wheel_of v.self-is ∙ v.lose-first.ensures ∙ served_lost _ _ s _ c.requires.seated (le-ltb 0 (c.args.interest - x) (omega arith))
-        | else-taken-interest+then_used_lot v ↦ ap wheel_of v.self-is ∙ v.rotate.ensures ∙ served_full _ _ s _ c.requires.seated (lt-ltb 0 (c.args.interest - x) (omega arith)) v.if-used-lot.true
-        | else-taken-interest+else_used_lot v ↦ ap wheel_of v.self-is ∙ served_part _ _ s _ c.requires.seated (lt-ltb 0 (c.args.interest - x) (omega arith)) v.if-used-lot.false
+        | then-taken-interest v ↦ ap wheel_of v.self-is ∙ v.lose_first.ensures ∙ served_lost _ _ s _ c.requires.seated (le-ltb 0 (c.args.interest - x) (omega arith))
+        | else-taken-interest+then-used-lot v ↦ ap wheel_of v.self-is ∙ v.rotate.ensures ∙ served_full _ _ s _ c.requires.seated (lt-ltb 0 (c.args.interest - x) (omega arith)) v.if-used-lot.true
+        | else-taken-interest+else-used-lot v ↦ ap wheel_of v.self-is ∙ served_part _ _ s _ c.requires.seated (lt-ltb 0 (c.args.interest - x) (omega arith)) v.if-used-lot.false
       ];
     }

@@ -28,8 +28,8 @@ returns-then-left-eq0 g c =
       tallied = c.requires.tallied;
     }
 
-pub returns-then-is-given-back : goal.returns-then-is-given-back
-returns-then-is-given-back g c =
+pub returns-then-is_given_back : goal.returns-then-is_given_back
+returns-then-is_given_back g c =
     let rank : Ranking = ranked_by g.K.Ranking.initial g.K.Ranking.good in
     let e : Order = c.args.self.order in
     let n : ℕ = c.args.self.left in
@@ -37,7 +37,7 @@ returns-then-is-given-back g c =
     let rs : List Row = c.args.report.now in
     let a : ℕ = c.args.self.rows in
     let row : Row = GivenBack e.number n in
-    let o : ended rank e n b ≡ done (e.quantity - n) n (row ∷ []) b = ended_back rank e n b c.if-left-eq0.false (sym c.is-given-back.ensures ∙ c.if-is-given-back.true) in
+    let o : ended rank e n b ≡ done (e.quantity - n) n (row ∷ []) b = ended_back rank e n b c.if-left-eq0.false (sym c.is_given_back.ensures ∙ c.if-is_given_back.true) in
     record {
       book = sym (ap (λ (x : Outcome). x.book) o);
       answer = sym (ap (λ (x : Outcome). x.answer) o);
@@ -46,12 +46,12 @@ returns-then-is-given-back g c =
       tallied = c.requires.tallied;
     }
 
-pub place-order-requires : goal.place-order-requires
-place-order-requires g c =
+pub place_order-requires : goal.place_order-requires
+place_order-requires g c =
     let rank : Ranking = ranked_by g.K.Ranking.initial g.K.Ranking.good in
     let e : Order = c.args.self.order in
     let b : Book = book_of c.args.state.now in
-    let k : rests e.kind ≡ true = placed_rests rank b e (sym c.is-given-back.ensures ∙ c.if-is-given-back.false) in
+    let k : rests e.kind ≡ true = placed_rests rank b e (sym c.is_given_back.ensures ∙ c.if-is_given_back.false) in
     record {
       rests = k;
       known = c.requires.ready.known;
@@ -68,15 +68,15 @@ returns g c =
     let n : ℕ = c.args.self.left in
     let b : Book = book_of c.args.state.now in
     let rows : List Resting = rows_of c.args.state.now.orders in
-    let np : not_placed rank b e ≡ false = sym c.is-given-back.ensures ∙ c.if-is-given-back.false in
+    let np : not_placed rank b e ≡ false = sym c.is_given_back.ensures ∙ c.if-is_given_back.false in
     let o : ended rank e n b ≡ done (e.quantity - n) 0 [] (with_order e (place rank e.kind e n b)) = ended_placed rank e n b c.if-left-eq0.false np in
     record {
-      book = c.place-order.ensures.book ∙ sym (ap (λ (x : Outcome). x.book) o);
+      book = c.place_order.ensures.book ∙ sym (ap (λ (x : Outcome). x.book) o);
       answer = sym (ap (λ (x : Outcome). x.answer) o);
       report = sym (ap (λ (x : Outcome). written c.args.report.now c.args.self.rows x.rows) o ∙ written_none c.args.report.now c.args.self.rows);
       rows = omega (arith, ap (λ (x : Outcome). length x.rows) o);
       tallied =
-          subst (λ x. Tallied (rows_of c.place-order.new.state.orders) x) (sym c.place-order.ensures.book)
-          (subst (λ rs. Tallied rs (with_order e (place rank e.kind e n b))) (sym c.place-order.ensures.table)
+          subst (λ x. Tallied (rows_of c.place_order.new.state.orders) x) (sym c.place_order.ensures.book)
+          (subst (λ rs. Tallied rs (with_order e (place rank e.kind e n b))) (sym c.place_order.ensures.table)
           (tallied_placed rank e n rows b (placed_rests rank b e np) c.requires.ready.absent c.requires.ready.unlisted c.requires.tallied));
     }

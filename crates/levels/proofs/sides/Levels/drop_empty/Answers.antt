@@ -21,20 +21,20 @@ held s i q d lt read =
 pub at-requires : goal.at-requires
 at-requires c = (lit< tt, omega (arith, c.requires, prices c.args.self.now))
 
-pub overflow-add-i : goal.overflow-add-i
-overflow-add-i c = record { fits = omega (arith, c.requires, prices c.args.self.now, length_items c.args.self.now.heads) }
+pub overflow_add-i : goal.overflow_add-i
+overflow_add-i c = record { fits = omega (arith, c.requires, prices c.args.self.now, length_items c.args.self.now.heads) }
 
-pub remove-range-requires : goal.remove-range-requires
-remove-range-requires c = (lit< tt, (omega arith, omega (arith, c.requires, prices c.args.self.now)))
+pub remove_range-requires : goal.remove_range-requires
+remove_range-requires c = (lit< tt, (omega arith, omega (arith, c.requires, prices c.args.self.now)))
 
-pub invariant-of-self : goal.invariant-of-self
-invariant-of-self c =
+pub invariant_of-self : goal.invariant_of-self
+invariant_of-self c =
     let s = c.args.self.now in
     let q = c.at.result.now in
-    let none : size q ≤ 0 = ltb-false 0 (size q) (sym c.if-not-holds.ensures) in (
-      ap span c.remove-range.ensures ∙ omega (arith, span_removed (items s.heads) c.args.i q (omega (arith, c.requires, prices s)), ap size c.at.ensures, none, s.whole),
-      (s.limits, tt),
-    )
+    let none : size q ≤ 0 = ltb-false 0 (size q) (sym c.if-not-holds.ensures) in record {
+      whole = ap span c.remove_range.ensures ∙ omega (arith, span_removed (items s.heads) c.args.i q (omega (arith, c.requires, prices s)), ap size c.at.ensures, none, s.whole);
+      limits = s.limits;
+    }
 
 pub returns-then-not-holds : goal.returns-then-not-holds
 returns-then-not-holds c = λ d.
@@ -44,7 +44,7 @@ returns-then-not-holds c = λ d.
     let lt : i < length (items s.heads) = omega (arith, c.requires, prices s) in
     let none : size q ≤ 0 = ltb-false 0 (size q) (sym c.if-not-holds.ensures) in
     let here : size (get_or (items s.heads) i q) ≡ 0 = omega (arith, ap size c.at.ensures, none) in
-    ap (λ l. levels l (items s.parts)) c.remove-range.ensures ∙ remove_level (items s.heads) (items s.parts) i q lt here
+    ap (λ l. levels l (items s.parts)) c.remove_range.ensures ∙ remove_level (items s.heads) (items s.parts) i q lt here
     ∙ ap (λ t. cond t (levels_of s) (take i (levels_of s) ++ drop (i + 1) (levels_of s))) (sym (held s i q d lt c.at.ensures ∙ sym c.if-not-holds.ensures))
 
 pub returns-else-not-holds : goal.returns-else-not-holds

@@ -15,10 +15,10 @@ insert-requires g c =
     let s = c.args.self.now in
     (lit< tt, (omega (arith, c.requires, prices s), omega (arith, c.seek-i.ensures.within, prices s)))
 
-pub invariant-of-self : goal.invariant-of-self
-invariant-of-self g c =
+pub invariant_of-self : goal.invariant_of-self
+invariant_of-self g c =
     let s = c.args.self.now in
-    (ap span c.insert.ensures ∙ omega (arith, span_inserted (items s.heads) c.seek-i.result c.new.result, c.new.ensures.none, s.whole), (s.limits, tt))
+    record { whole = ap span c.insert.ensures ∙ omega (arith, span_inserted (items s.heads) c.seek-i.result c.new.result, c.new.ensures.none, s.whole); limits = s.limits }
 
 pub returns-then-not-stands : goal.returns-then-not-stands
 returns-then-not-stands g c =

@@ -17,6 +17,6 @@ returns c = λ d.
     let ls = levels_of c.args.self.now in
     c.trade.ensures d
     ∙ ap (λ w. set ls i (with_queue t (queue (lowered (queue_of t (get_or ls i d)).parts xs) w) (get_or ls i d)))
-    (c.settle-wheel.ensures
+    (c.settle_wheel.ensures
     ∙ ap (λ (ps : List Part). settle (wheel_of c.wheel.result.now) (lowered ps xs)) (c.parts.ensures.value d)
     ∙ ap (λ (w : Wheels.Wheel). settle w (lowered (queue_of t (get_or ls i d)).parts xs)) (c.wheel.ensures d))

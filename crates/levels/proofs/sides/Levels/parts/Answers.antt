@@ -17,19 +17,19 @@ at-requires c = (lit< tt, omega (arith, c.requires, prices c.args.self.now))
 pub slice-requires : goal.slice-requires
 slice-requires c =
     let q = c.at.result.now in
-    (lit< tt, omega (arith, c.queue-start-start.ensures.within q, ap (λ x. x.count) (c.queue.ensures ∙ ap (head_of c.args.step) c.at.ensures)))
+    (lit< tt, omega (arith, c.queue_start-start.ensures.within q, ap (λ x. x.count) (c.queue.ensures ∙ ap (head_of c.args.step) c.at.ensures)))
 
 pub returns : goal.returns
 returns c =
     let s = c.args.self.now in
     let q = c.at.result.now in
-    let k = c.queue-start-start.result in
+    let k = c.queue_start-start.result in
     let n = c.queue.result.now.count in
     let short : length c.slice.result.now ≤ 384 = omega (arith, ap length c.slice.ensures, length-take n (drop k (items s.parts)), length-drop k (items s.parts), bound s) in
     let limits : All WithinLimits c.slice.result.now = subst (λ (ps : List Part). All WithinLimits ps) (sym c.slice.ensures) (limits_part (items s.parts) n k s.limits) in
     record {
       value = λ d. c.slice.ensures
-          ∙ parts_here c.args.step (items s.heads) (items s.parts) c.args.i k n q (omega (arith, c.requires, prices s)) (c.queue-start-start.ensures.start q) (ap (λ x. x.count) (c.queue.ensures ∙ ap (head_of c.args.step) c.at.ensures)) d;
+          ∙ parts_here c.args.step (items s.heads) (items s.parts) c.args.i k n q (omega (arith, c.requires, prices s)) (c.queue_start-start.ensures.start q) (ap (λ x. x.count) (c.queue.ensures ∙ ap (head_of c.args.step) c.at.ensures)) d;
       short = short;
       limits = limits;
       fits = fits_limits c.slice.result.now limits short;

@@ -21,8 +21,8 @@ within c d =
     let s = c.args.self.now in
     within_parts c.args.step (items s.heads) (items s.parts) c.args.i _ _ d (omega (arith, c.requires, prices s)) (omega (arith, c.start-start.ensures, is c d)) refl (omega (arith, s.whole))
 
-pub overflow-add-result : goal.overflow-add-result
-overflow-add-result c = omega (arith, within c c.at.result.now, bound c.args.self.now)
+pub overflow_add-result : goal.overflow_add-result
+overflow_add-result c = omega (arith, within c c.at.result.now, bound c.args.self.now)
 
 pub returns : goal.returns
 returns c = record { start = λ d. omega (arith, c.start-start.ensures, is c d); within = λ d. within c d }

@@ -11,8 +11,8 @@ use Rattle.levels.proofs.sides.Levels.seek.Goals as goal
 pub loop-i-init : goal.loop-i-init
 loop-i-init g c = λ f. refl
 
-pub returns-then-at-least : goal.returns-then-at-least
-returns-then-at-least g c =
+pub returns-then-at_least : goal.returns-then-at_least
+returns-then-at_least g c =
     let s = c.args.self.now in
     let rank = ranked_by g.K.Ranking.initial g.K.Ranking.good in
     let lt : c.loop-i.i < length (items s.heads) = omega (arith, c.len-i-end.ensures) in
@@ -22,7 +22,7 @@ returns-then-at-least g c =
       within = omega arith;
       skips = c.loop-i.invariant;
       stops = at_drop_more (no_better rank c.args.side c.args.price) (levels_of s) c.loop-i.i (nothing_at 0) (omega arith)
-          ∙ ap (λ l. good rank c.args.side c.args.price l.price) here ∙ sym c.if-at-least.ensures;
+          ∙ ap (λ l. good rank c.args.side c.args.price l.price) here ∙ sym c.if-at_least.ensures;
     }
 
 pub loop-i-preserved : goal.loop-i-preserved
@@ -33,7 +33,7 @@ loop-i-preserved g c = λ f.
     let long = prices s in
     let here = level_is s c.loop-i.i c.at.result.now (nothing_at 0) lt c.at.ensures in
     skip_more rank c.args.side c.args.price f (good_same rank (same_total g.K.Ranking.good g.met.K.Ranking.ordered) c.args.side) (levels_of s) c.loop-i.i (nothing_at 0) (omega arith)
-    (ap (λ l. good rank c.args.side c.args.price l.price) here ∙ sym c.if-at-least.ensures)
+    (ap (λ l. good rank c.args.side c.args.price l.price) here ∙ sym c.if-at_least.ensures)
     (c.loop-i.invariant f)
 
 pub returns : goal.returns

@@ -24,26 +24,26 @@ within s t i k j d lt start lt' =
     let lt_heads : i < length hs = omega (arith, prices s) in
     omega (arith, ap length (parts_here t hs ps i k (head_of t (get_or hs i d)).count d lt_heads (start d) refl (nothing_at 0)), length_here t hs ps i k (head_of t (get_or hs i d)).count d lt_heads (start d) refl (omega (arith, s.whole)))
 
-pub overflow-add-start : goal.overflow-add-start
-overflow-add-start c =
+pub overflow_add-start : goal.overflow_add-start
+overflow_add-start c =
     let s = c.args.self.now in
     let d = head_at (items s.heads) c.args.i (omega (arith, c.requires.place, prices s)) in
-    record { fits = omega (arith, bound s, c.queue-start-start.ensures.within d, within s c.args.step c.args.i c.queue-start-start.result c.args.k d c.requires.place c.queue-start-start.ensures.start c.requires.within) }
+    record { fits = omega (arith, bound s, c.queue_start-start.ensures.within d, within s c.args.step c.args.i c.queue_start-start.result c.args.k d c.requires.place c.queue_start-start.ensures.start c.requires.within) }
 
 pub set-requires : goal.set-requires
 set-requires c =
     let s = c.args.self.now in
     let d = head_at (items s.heads) c.args.i (omega (arith, c.requires.place, prices s)) in
-    (lit< tt, omega (arith, c.queue-start-start.ensures.within d, within s c.args.step c.args.i c.queue-start-start.result c.args.k d c.requires.place c.queue-start-start.ensures.start c.requires.within))
+    (lit< tt, omega (arith, c.queue_start-start.ensures.within d, within s c.args.step c.args.i c.queue_start-start.result c.args.k d c.requires.place c.queue_start-start.ensures.start c.requires.within))
 
-pub invariant-of-self : goal.invariant-of-self
-invariant-of-self c =
+pub invariant_of-self : goal.invariant_of-self
+invariant_of-self c =
     let s = c.args.self.now in
     let ps = items s.parts in
-    let at = c.queue-start-start.result + c.args.k in (
-      s.whole ∙ sym (ap length c.set.ensures ∙ length-set ps at c.args.part),
-      (ap within_limits c.set.ensures ∙ all_limits (set ps at c.args.part) (All-set WithinLimits ps at c.args.part (c.requires.known, c.requires.small) (limits_all ps s.limits)), tt),
-    )
+    let at = c.queue_start-start.result + c.args.k in record {
+      whole = s.whole ∙ sym (ap length c.set.ensures ∙ length-set ps at c.args.part);
+      limits = ap within_limits c.set.ensures ∙ all_limits (set ps at c.args.part) (All-set WithinLimits ps at c.args.part (c.requires.known, c.requires.small) (limits_all ps s.limits));
+    }
 
 pub returns : goal.returns
 returns c = λ e.
@@ -52,5 +52,5 @@ returns c = λ e.
     let lt : c.args.i < length hs = omega (arith, c.requires.place, prices s) in
     let d = head_at hs c.args.i lt in
     ap (levels hs) c.set.ensures
-    ∙ set_law c.args.step hs (items s.parts) c.args.i c.queue-start-start.result (head_of c.args.step (get_or hs c.args.i d)).count d lt (c.queue-start-start.ensures.start d) refl c.args.k c.args.part e (omega (arith, s.whole))
-    (within s c.args.step c.args.i c.queue-start-start.result c.args.k d c.requires.place c.queue-start-start.ensures.start c.requires.within)
+    ∙ set_law c.args.step hs (items s.parts) c.args.i c.queue_start-start.result (head_of c.args.step (get_or hs c.args.i d)).count d lt (c.queue_start-start.ensures.start d) refl c.args.k c.args.part e (omega (arith, s.whole))
+    (within s c.args.step c.args.i c.queue_start-start.result c.args.k d c.requires.place c.queue_start-start.ensures.start c.requires.within)

@@ -5,13 +5,13 @@ use Rattle.levels.proofs.Flat.{span_more}
 use Rattle.levels.proofs.Facts.{bound, parts_of}
 use Rattle.levels.proofs.sides.Levels.start.Goals as goal
 
-pub overflow-add-start : goal.overflow-add-start
-overflow-add-start c =
+pub overflow_add-start : goal.overflow_add-start
+overflow_add-start c =
     let s = c.args.self.now in
     omega (arith, c.requires, bound s, parts_of s c.loop-k.k c.at-head.result.now (omega (arith, c.requires)) c.at-head.ensures)
 
-pub overflow-add-start-in-loop-k : goal.overflow-add-start-in-loop-k
-overflow-add-start-in-loop-k c =
+pub overflow_add-start-in-loop-k : goal.overflow_add-start-in-loop-k
+overflow_add-start-in-loop-k c =
     let s = c.args.self.now in
     omega (arith, c.requires, c.loop-k.invariant, bound s, parts_of s c.loop-k.k c.at-head.result.now (omega (arith, c.requires)) c.at-head.ensures)
 

@@ -15,58 +15,56 @@ use Rattle.levels.proofs.sides.Levels.trade.Goals as goal
 pub at-requires : goal.at-requires
 at-requires c = (lit< tt, omega (arith, c.requires.place, prices c.args.self.now))
 
-pub lower-each-count-requires : goal.lower-each-count-requires
-lower-each-count-requires c =
+pub lower_each-count-requires : goal.lower_each-count-requires
+lower_each-count-requires c =
     let s = c.args.self.now in
     let t = c.args.step in
     let q = c.at.result.now in
     let hs = items s.heads in
     let ps = items s.parts in
-    let k = c.queue-start-start.result in
+    let k = c.queue_start-start.result in
     let n = c.queue.result.now.count in
     let lt : c.args.i < length hs = omega (arith, c.requires.place, prices s) in
-    let start = c.queue-start-start.ensures.start q in
+    let start = c.queue_start-start.ensures.start q in
     let many : n ≡ (head_of t (get_or hs c.args.i q)).count = ap (λ x. x.count) (c.queue.ensures ∙ ap (head_of t) c.at.ensures) in
     record {
-      place = omega (arith, c.queue-start-start.ensures.within q, many);
+      place = omega (arith, c.queue_start-start.ensures.within q, many);
       each = c.requires.each ∙ ap length (sym (parts_here t hs ps c.args.i k n q lt start many (nothing_at 0))) ∙ length_here t hs ps c.args.i k n q lt start many (omega (arith, s.whole));
     }
 
 pub edit-requires : goal.edit-requires
 edit-requires c = (lit< tt, omega (arith, c.requires.place, prices c.args.self.now))
 
-pub invariant-of-self : goal.invariant-of-self
-invariant-of-self c =
+pub invariant_of-self : goal.invariant_of-self
+invariant_of-self c =
     let s = c.args.self.now in
     let t = c.args.step in
     let q = c.at.result.now in
-    let f = c.lower-each-count in
+    let f = c.lower_each-count in
     let hs = items s.heads in
     let ps = items s.parts in
-    let k = c.queue-start-start.result in
+    let k = c.queue_start-start.result in
     let n = c.queue.result.now.count in
     let many : n ≡ (head_of t (get_or hs c.args.i q)).count = ap (λ x. x.count) (c.queue.ensures ∙ ap (head_of t) c.at.ensures) in
-    let mid : List Part = lowered (take n (drop k ps)) c.args.shares.now in (
-      ap span (c.edit.ensures q)
-          ∙ whole_law t hs ps c.args.i k n q (omega (arith, c.requires.place, prices s)) (c.queue-start-start.ensures.start q) many mid f.result c.args.wheel s.whole f.ensures.count
-          ∙ ap length (sym f.ensures.after),
-      (
-        ap within_limits f.ensures.after ∙ limits_spliced ps k (k + n) mid s.limits (limits_lowered (take n (drop k ps)) c.args.shares.now (limits_part ps n k s.limits)),
-        tt,
-      ),
-    )
+    let mid : List Part = lowered (take n (drop k ps)) c.args.shares.now in record {
+      whole = ap span (c.edit.ensures q)
+          ∙ whole_law t hs ps c.args.i k n q (omega (arith, c.requires.place, prices s)) (c.queue_start-start.ensures.start q) many mid f.result c.args.wheel s.whole f.ensures.count
+          ∙ ap length (sym f.ensures.after);
+      limits =
+        ap within_limits f.ensures.after ∙ limits_spliced ps k (k + n) mid s.limits (limits_lowered (take n (drop k ps)) c.args.shares.now (limits_part ps n k s.limits));
+    }
 
 pub returns : goal.returns
 returns c = λ d.
     let s = c.args.self.now in
     let t = c.args.step in
     let q = c.at.result.now in
-    let f = c.lower-each-count in
+    let f = c.lower_each-count in
     let hs = items s.heads in
     let ps = items s.parts in
-    let k = c.queue-start-start.result in
+    let k = c.queue_start-start.result in
     let n = c.queue.result.now.count in
     let many : n ≡ (head_of t (get_or hs c.args.i q)).count = ap (λ x. x.count) (c.queue.ensures ∙ ap (head_of t) c.at.ensures) in
     ap (λ l. levels l (items f.new.parts)) (c.edit.ensures q)
     ∙ ap (levels (set hs c.args.i (with_head t (queue_head c.args.wheel f.result) (get_or hs c.args.i q)))) f.ensures.after
-    ∙ lower_law t hs ps c.args.i k n q (omega (arith, c.requires.place, prices s)) (c.queue-start-start.ensures.start q) many c.args.shares.now f.result c.args.wheel d (omega (arith, s.whole)) f.ensures.count
+    ∙ lower_law t hs ps c.args.i k n q (omega (arith, c.requires.place, prices s)) (c.queue_start-start.ensures.start q) many c.args.shares.now f.result c.args.wheel d (omega (arith, s.whole)) f.ensures.count

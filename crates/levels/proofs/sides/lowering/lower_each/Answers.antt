@@ -21,6 +21,6 @@ loop-j-preserved c =
 pub returns : goal.returns
 returns c =
     record {
-      after = c.remove-range.ensures ∙ lowering_all c.loop-j.invariant c.loop-j-test.false c.requires.place;
+      after = c.remove_range.ensures ∙ lowering_all c.loop-j.invariant c.loop-j-test.false c.requires.place;
       count = lowering_count c.loop-j.invariant c.loop-j-test.false c.requires.place;
     }

@@ -11,8 +11,8 @@ use Rattle.orders.proofs.tables.OrderTable.deduct.Goals as goal
 pub loop-i-init : goal.loop-i-init
 loop-i-init c = deducting_start c.args.rows.now (rows_of c.args.self.now) c.requires.enough
 
-pub deduct-row-requires : goal.deduct-row-requires
-deduct-row-requires c =
+pub deduct_row-requires : goal.deduct_row-requires
+deduct_row-requires c =
     let xs = c.args.rows.now in
     let same = c.loop-i.invariant.orders in
     let lt : c.loop-i.i < length xs = c.loop-i-test.true in
@@ -23,7 +23,7 @@ deduct-row-requires c =
     }
 
 pub loop-i-preserved : goal.loop-i-preserved
-loop-i-preserved c = deducting_more no_row (rows_of c.deduct-row.new.self) c.loop-i.invariant c.loop-i-test.true c.deduct-row.ensures
+loop-i-preserved c = deducting_more no_row (rows_of c.deduct_row.new.self) c.loop-i.invariant c.loop-i-test.true c.deduct_row.ensures
 
 pub returns : goal.returns
 returns c = deducting_over c.loop-i.invariant c.loop-i-test.false

@@ -6,8 +6,8 @@ use Rattle.wheel_demo.proofs.Interests.{bounds, taken_claim}
 use Rattle.wheel_demo.proofs.Sound.{sound_queue, sound_fields, sound_joined}
 use Rattle.wheel_demo.proofs.queues.Queue.add.Goals as goal
 
-pub ensure-seat-requires : goal.ensure-seat-requires
-ensure-seat-requires g c =
+pub ensure_seat-requires : goal.ensure_seat-requires
+ensure_seat-requires g c =
     let x = c.args.claim in
     let b = bounds x (taken_claim x c.args.self.now.len c.takes.result c.takes.ensures.taken c.if-not-takes.false).0 in
     record { known = (b.named, b.known) }
@@ -15,11 +15,11 @@ ensure-seat-requires g c =
 pub put-requires : goal.put-requires
 put-requires g c = (taken_claim c.args.claim c.args.self.now.len c.takes.result c.takes.ensures.taken c.if-not-takes.false).1
 
-pub invariant-of-self : goal.invariant-of-self
-invariant-of-self g c =
+pub invariant_of-self : goal.invariant_of-self
+invariant_of-self g c =
     let s = c.args.self.now in
     let x = c.args.claim in
     let ok = taken_claim x s.len c.takes.result c.takes.ensures.taken c.if-not-takes.false in
-    let after : Standing = record { claims = take (s.len + 1) c.put.new.claims; wheel = wheel_of c.ensure-seat.new.self } in
-    let e : after ≡ joined (standing s) x = λ i. record { claims = c.put.ensures i; wheel = c.ensure-seat.ensures i } in
+    let after : Standing = record { claims = take (s.len + 1) c.put.new.claims; wheel = wheel_of c.ensure_seat.new.self } in
+    let e : after ≡ joined (standing s) x = λ i. record { claims = c.put.ensures i; wheel = c.ensure_seat.ensures i } in
     sound_fields s.lot after (s.len + 1) (omega (arith, ok.1)) (sound_joined s.lot (standing s) after x (sound_queue s) ok.0 e)

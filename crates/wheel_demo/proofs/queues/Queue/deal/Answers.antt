@@ -6,11 +6,11 @@ use Rattle.wheel_demo.specs.Memory.{standing}
 use Rattle.wheel_demo.proofs.Sound.{sound_queue, sound_fields, sound_served}
 use Rattle.wheel_demo.proofs.queues.Queue.deal.Goals as goal
 
-pub invariant-of-self : goal.invariant-of-self
-invariant-of-self g c =
+pub invariant_of-self : goal.invariant_of-self
+invariant_of-self g c =
     let s = c.args.self.now in
     let q = c.args.quantity in
-    let f = c.deal-front in
+    let f = c.deal_front in
     let k = c.keep-self in
     let cs = take s.len s.claims in
     let d : Dealt = g.D.Dealing.meaning q (wheel_of s.wheel) s.lot cs in

@@ -5,11 +5,11 @@ use Rattle.wheel_demo.specs.Memory.{standing}
 use Rattle.wheel_demo.proofs.Sound.{sound_queue, sound_fields, sound_without}
 use Rattle.wheel_demo.proofs.queues.Queue.leave.Goals as goal
 
-pub invariant-of-self : goal.invariant-of-self
-invariant-of-self g c =
+pub invariant_of-self : goal.invariant_of-self
+invariant_of-self g c =
     let s = c.args.self.now in
     let k = c.keep-self in
     let p = c.args.participant in
-    let after : Standing = record { claims = take k.result k.new.claims; wheel = wheel_of c.lose-seat.new.self } in
-    let e : after ≡ without (standing s) p = λ i. record { claims = k.ensures.front i; wheel = c.lose-seat.ensures i } in
+    let after : Standing = record { claims = take k.result k.new.claims; wheel = wheel_of c.lose_seat.new.self } in
+    let e : after ≡ without (standing s) p = λ i. record { claims = k.ensures.front i; wheel = c.lose_seat.ensures i } in
     sound_fields s.lot after k.result (omega (arith, k.ensures.count, s.fits)) (sound_without s.lot (standing s) after p (sound_queue s) e)

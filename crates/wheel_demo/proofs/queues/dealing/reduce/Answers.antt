@@ -7,7 +7,7 @@ use Rattle.wheel_demo.proofs.queues.dealing.reduce.Goals as goal
 pub loop-i-preserved : goal.loop-i-preserved
 loop-i-preserved c =
     let l = c.loop-i in
-    reduce_more l.claims c.args.shares.now l.i c.less-share.result (omega arith) (omega arith) c.less-share.ensures ∙ l.invariant
+    reduce_more l.claims c.args.shares.now l.i c.less_share.result (omega arith) (omega arith) c.less_share.ensures ∙ l.invariant
 
 pub returns : goal.returns
 returns c =

@@ -6,5 +6,5 @@ use Rattle.book.proofs.rankings.buyers.BuyersMemoryRankedMemory.call.Goals as go
 pub call-requires : goal.call-requires
 call-requires g c = standing _ _ c.args.self.now.stands
 
-pub invariant-of-self : goal.invariant-of-self
-invariant-of-self g c = (keeps _ buyers_order g.D.Dealing.meaning g.met.D.Dealing.lawful c.call.ensures c.args.self.now.stands, tt)
+pub invariant_of-self : goal.invariant_of-self
+invariant_of-self g c = (keeps _ buyers_order g.D.Dealing.meaning g.met.D.Dealing.lawful c.call.ensures c.args.self.now.stands, tt)

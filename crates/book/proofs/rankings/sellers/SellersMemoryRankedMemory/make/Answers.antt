@@ -4,8 +4,8 @@ use Rattle.book.proofs.Orders.{sellers_order}
 use Rattle.book.proofs.Sealed.{makes}
 use Rattle.book.proofs.rankings.sellers.SellersMemoryRankedMemory.make.Goals as goal
 
-pub invariant-of-result : goal.invariant-of-result
-invariant-of-result c =
+pub invariant_of-result : goal.invariant_of-result
+invariant_of-result c =
     let s = c.in-ok-state.state in
     let is = c.in-ok-state.was in
     (makes _ sellers_order time time_lawful _ s c.args.lot is c.make.ensures.book (c.make.ensures.lot s is) (c.make.ensures.rows s is), tt)
