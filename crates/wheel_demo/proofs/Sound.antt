@@ -11,6 +11,7 @@ use Rattle.wheel_demo.specs.Admitted.{admissible, Admitted}
 use Rattle.wheel_demo.specs.Queues.{Standing, joined, served, without, unfilled, not_of}
 use Rattle.wheel_demo.specs.Memory.{standing}
 use Rattle.wheel_demo.specs.declared.queues.Queue.{Queue}
+use Rattle.allocation.specs.declared.dealings.Dealing.{Ghosts}
 use Rattle.wheel_demo.proofs.Interests.{bounds, each_admitted, admitted_each, left_admissible, interest_push, interest_unfilled, interest_given_up, interest_others}
 
 -- the claims are admissible, and the wheel seats exactly the claimants
@@ -18,19 +19,19 @@ pub record Sound (lot : ℕ) (s : Standing) : Type 0 where
   pub admitted : Admitted s.claims
   pub seated : Seated lot s.wheel (λ p. interest p s.claims)
 
-pub sound_queue : {D : Type 0} (q : Queue D) → Sound q.lot (standing q)
+pub sound_queue : {D : Type 0} {d : Ghosts D} (q : Queue D d) → Sound q.lot (standing q)
 sound_queue q = record { admitted = q.admitted; seated = record { once = q.once; below = q.below; empty = q.empty } }
 
 -- back to the fields, one by one
-abbrev Fields : ℕ → Standing → ℕ → Type 0
-Fields lot s n =
-    (n ≤ 64)
-    × (Admitted s.claims
-    × (((p : ℕ) → seats_of p s.wheel.seats ≡ min 1 (interest p s.claims))
-    × ((s.wheel.used < lot) × ((s.wheel.seats ≡ [] → s.wheel.used ≡ 0) × Unit {0}))))
+pub record Fields (lot : ℕ) (s : Standing) (n : ℕ) : Type 0 where
+  pub fits : n ≤ 64
+  pub admitted : Admitted s.claims
+  pub once : (p : ℕ) → seats_of p s.wheel.seats ≡ min 1 (interest p s.claims)
+  pub below : s.wheel.used < lot
+  pub empty : s.wheel.seats ≡ [] → s.wheel.used ≡ 0
 
 pub sound_fields : (lot : ℕ) (s : Standing) (n : ℕ) → n ≤ 64 → Sound lot s → Fields lot s n
-sound_fields lot s n fits h = (fits, (h.admitted, (h.seated.once, (h.seated.below, (h.seated.empty, tt)))))
+sound_fields lot s n fits h = record { fits = fits; admitted = h.admitted; once = h.seated.once; below = h.seated.below; empty = h.seated.empty }
 
 pub sound_joined : (lot : ℕ) (s t : Standing) (c : Claim) → Sound lot s → admissible c ≡ true → t ≡ joined s c → Sound lot t
 sound_joined lot s t c h ok is =

@@ -65,7 +65,7 @@ fn keep_resting(rows: &mut [Resting; ORDERS], n: usize) -> usize
     requires { n ≤ 128 }
     ensures count { result ≤ n }
     ensures long { length rows.new ≡ length rows.old }
-    ensures* front { λ r. ⌜ take r rows.new ≡ filter (λ r. nat_lt 0 r.quantity) (take n rows.old) ⌝ }
+    ensures front { take result rows.new ≡ filter (λ r. nat_lt 0 r.quantity) (take n rows.old) }
 {
     let mut k = 0;
     for i in 0..n {

@@ -41,7 +41,7 @@ impl Stands for NotOf {
 /// Moves the claims that go on standing to the front, in their order, and counts them.
 fn filter<S: Stands>(claims: &mut [Claim], which: &S) -> usize
     ensures count { result ≤ length claims.old }
-    ensures front { take result claims.new ≡ filter (stands which.now) claims.old }
+    ensures front { take result claims.new ≡ filter (S.stands which.now) claims.old }
 {
     let mut count = 0;
     for i in 0..claims.len() {
@@ -58,7 +58,7 @@ fn filter<S: Stands>(claims: &mut [Claim], which: &S) -> usize
 pub(crate) fn keep<S: Stands>(claims: &mut [Claim; ROOM], n: usize, which: &S) -> usize
     requires { n ≤ 64 }
     ensures count { result ≤ n }
-    ensures front { take result claims.new ≡ filter (stands which.now) (take n claims.old) }
+    ensures front { take result claims.new ≡ filter (S.stands which.now) (take n claims.old) }
 {
     filter(&mut claims[0..n], which)
 }

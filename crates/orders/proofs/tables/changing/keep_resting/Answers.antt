@@ -17,10 +17,10 @@ loop-i-preserved c =
       | then-row-gt0 w ↦
           let yes = lt-ltb 0 x.quantity w.if-row-gt0.true in
           elim w.if-k-i.branch [
-            | then-k-i u ↦ rw (w.rows_is, w.k_is, u.rows_is) (FiltersInPlace-more_set {x = x} c.loop-i.invariant lt yes read)
-            | else-k-i u ↦ rw (w.rows_is, w.k_is, u.rows_is) (FiltersInPlace-more_here {x = x} c.loop-i.invariant lt yes read (omega (arith, u.if-k-i.false, c.loop-i.invariant.behind)))
+            | then-k-i u ↦ rw (w.rows-is, w.k-is, u.rows-is) (FiltersInPlace-more_set {x = x} c.loop-i.invariant lt yes read)
+            | else-k-i u ↦ rw (w.rows-is, w.k-is, u.rows-is) (FiltersInPlace-more_here {x = x} c.loop-i.invariant lt yes read (omega (arith, u.if-k-i.false, c.loop-i.invariant.behind)))
           ]
-      | else-row-gt0 w ↦ rw (w.rows_is, w.k_is) (FiltersInPlace-more_no {x = x} c.loop-i.invariant lt (le-ltb 0 x.quantity w.if-row-gt0.false) read)
+      | else-row-gt0 w ↦ rw (w.rows-is, w.k-is) (FiltersInPlace-more_no {x = x} c.loop-i.invariant lt (le-ltb 0 x.quantity w.if-row-gt0.false) read)
     ]
 
 pub returns : goal.returns

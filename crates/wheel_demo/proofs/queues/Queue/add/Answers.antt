@@ -22,4 +22,5 @@ invariant_of-self g c =
     let ok = taken_claim x s.len c.takes.result c.takes.ensures.taken c.if-not-takes.false in
     let after : Standing = record { claims = take (s.len + 1) c.put.new.claims; wheel = wheel_of c.ensure_seat.new.self } in
     let e : after ≡ joined (standing s) x = λ i. record { claims = c.put.ensures i; wheel = c.ensure_seat.ensures i } in
-    sound_fields s.lot after (s.len + 1) (omega (arith, ok.1)) (sound_joined s.lot (standing s) after x (sound_queue s) ok.0 e)
+    let f = sound_fields s.lot after (s.len + 1) (omega (arith, ok.1)) (sound_joined s.lot (standing s) after x (sound_queue s) ok.0 e) in
+    record { fits = f.fits; admitted = f.admitted; once = f.once; below = f.below; empty = f.empty }

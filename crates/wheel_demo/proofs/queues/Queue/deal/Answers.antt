@@ -19,4 +19,5 @@ invariant_of-self g c =
     let e : after ≡ served (standing s) d = λ i. record { claims = left i; wheel = f.ensures.wheel i } in
     let was = sound_queue s in
     let well = g.met.D.Dealing.lawful q (wheel_of s.wheel) s.lot cs was.seated in
-    sound_fields s.lot after k.result (omega (arith, k.ensures.count, s.fits)) (sound_served q s.lot (standing s) after d was well e)
+    let h = sound_fields s.lot after k.result (omega (arith, k.ensures.count, s.fits)) (sound_served q s.lot (standing s) after d was well e) in
+    record { fits = h.fits; admitted = h.admitted; once = h.once; below = h.below; empty = h.empty }

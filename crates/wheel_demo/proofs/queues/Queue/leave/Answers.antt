@@ -12,4 +12,5 @@ invariant_of-self g c =
     let p = c.args.participant in
     let after : Standing = record { claims = take k.result k.new.claims; wheel = wheel_of c.lose_seat.new.self } in
     let e : after ≡ without (standing s) p = λ i. record { claims = k.ensures.front i; wheel = c.lose_seat.ensures i } in
-    sound_fields s.lot after k.result (omega (arith, k.ensures.count, s.fits)) (sound_without s.lot (standing s) after p (sound_queue s) e)
+    let f = sound_fields s.lot after k.result (omega (arith, k.ensures.count, s.fits)) (sound_without s.lot (standing s) after p (sound_queue s) e) in
+    record { fits = f.fits; admitted = f.admitted; once = f.once; below = f.below; empty = f.empty }

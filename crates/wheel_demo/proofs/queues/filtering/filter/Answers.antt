@@ -10,8 +10,8 @@ loop-i-preserved g c =
     let at : c.loop-i.i < length c.loop-i.claims = omega arith in
     let read = get_or_default c.loop-i.claims c.loop-i.i none (get_or c.loop-i.claims c.loop-i.i none) at in
     elim c.if-stands.branch [
-      | then-stands w ↦ rw (w.claims-is, w.count_is) (FiltersInPlace-more_set c.loop-i.invariant at (sym c.stands.ensures ∙ w.if-stands.true) read)
-      | else-stands w ↦ rw (w.claims-is, w.count_is) (FiltersInPlace-more_no c.loop-i.invariant at (sym c.stands.ensures ∙ w.if-stands.false) read)
+      | then-stands w ↦ rw (w.claims-is, w.count-is) (FiltersInPlace-more_set c.loop-i.invariant at (sym c.stands.ensures ∙ w.if-stands.true) read)
+      | else-stands w ↦ rw (w.claims-is, w.count-is) (FiltersInPlace-more_no c.loop-i.invariant at (sym c.stands.ensures ∙ w.if-stands.false) read)
     ]
 
 pub returns : goal.returns
