@@ -1,15 +1,19 @@
 -- Replenishing at the place of the order's price. Assumes nothing.
-use Rattle.std.proofs.Common.{◌≡◌, ℕ, zero, suc, ◌+◌, ◌<◌, ◌≤◌, min, Bool, true, false, cond, ◌||◌, eqb, List, [], ◌∷◌, length, get_or, set, sym, refl, ap, ◌∙◌, arith}
-use Rattle.std.proofs.lemmas.Bool.{eq-eqb}
+use Rattle.std.proofs.Common.{◌≡◌, ℕ, zero, suc, ◌+◌, ◌<◌, ◌≤◌, min, Bool, true, false, cond, ◌&&◌, ◌||◌, eqb, ltb, List, [], ◌∷◌, length, get_or, set, sym, refl, ap, ◌∙◌, arith}
+use Rattle.std.proofs.lemmas.Bool.{eq-eqb, lt-ltb, ltb-true, and_parts}
+use Rattle.std.proofs.lemmas.Bool.Decides.{nat_tests}
 use Rattle.std.proofs.lemmas.List.{set-get_or}
 use Rattle.rules.specs.declared.orders.Side.{Side}
 use Rattle.rules.specs.declared.orders.Order.{Order}
-use Rattle.rules.specs.Lists.{any}
-use Rattle.rules.specs.Books.{Level, Ranking, good, nothing_at}
-use Rattle.rules.specs.Changes.{on_price}
-use Rattle.rules.specs.Quantities.{of_level, of_side}
-use Rattle.rules.specs.Reserve.{runs_low, join_hidden, show_anew, hidden_of}
+use Rattle.rules.specs.Lists.{any, last_alone}
+use Rattle.rules.specs.declared.orders.Part.{Part}
+use Rattle.allocation.specs.Dealings.{sum}
+use Rattle.rules.specs.Books.{Level, Ranking, good, nothing_at, level, queue}
+use Rattle.rules.specs.Changes.{on_price, lowered, lose}
+use Rattle.rules.specs.Quantities.{pieces, of_order}
+use Rattle.rules.specs.Reserve.{runs_low, shows_two, raised, join_hidden, show_anew, hidden_of}
 use Rattle.rules.proofs.Ranked.{Still, join_hidden_still}
+use Rattle.rules.proofs.Levels.{raised_of}
 use Rattle.resting.specs.Earned.{earned}
 use Rattle.resting.specs.Replenished.{joined, replenished}
 use Rattle.resting.proofs.Low.{join_none, show_none}
@@ -54,3 +58,30 @@ replenished_not rank lot away e ls ms i d finds low =
     sym (set-get_or ms i d)
     ∙ ap (set ms i) (sym (ap (show_anew lot e mark) (join_none lot e.number l low) ∙ show_none lot e mark l low))
     ∙ replenished_at rank lot away e ls ms i d finds mark refl
+
+-- parts that lose amounts have no more than before
+lowered_less : (n : ℕ) (ps : List Part) (xs : List ℕ) → of_order n (lowered ps xs) ≤ of_order n ps
+lowered_less n [] xs = omega arith
+lowered_less n (p ∷ ps) [] = omega arith
+lowered_less n (p ∷ ps) (x ∷ xs) = let ih = lowered_less n ps xs in grind (arith, nat_tests)
+
+-- an order that runs low still does when its later part has joined the hidden part
+pub low_joined : (lot n : ℕ) (l : Level) → runs_low lot n l ≡ true → runs_low lot n (join_hidden lot n l) ≡ true
+unfolding join_hidden lose
+low_joined lot n l low = go (runs_low lot n l && shows_two n l)
+  where
+    xs : List ℕ
+    xs = last_alone (pieces n l.shown.parts)
+
+    few : of_order n l.shown.parts < lot
+    few = ltb-true (of_order n l.shown.parts) lot (and_parts (ltb (of_order n l.shown.parts) lot) (ltb 0 (of_order n l.hidden.parts)) low).0
+
+    some : 0 < of_order n l.hidden.parts
+    some = ltb-true 0 (of_order n l.hidden.parts) (and_parts (ltb (of_order n l.shown.parts) lot) (ltb 0 (of_order n l.hidden.parts)) low).1
+
+    go : (t : Bool) → runs_low lot n (cond t (level l.price (lose xs l.shown) (queue (raised n (sum xs) l.hidden.parts) l.hidden.wheel)) l) ≡ true
+    go true = rw (
+      lt-ltb (of_order n (lowered l.shown.parts xs)) lot (omega (arith, few, lowered_less n l.shown.parts xs)),
+      lt-ltb 0 (of_order n (raised n (sum xs) l.hidden.parts)) (omega (arith, some, raised_of n n (sum xs) l.hidden.parts some)),
+    )
+    go false = low

@@ -1,5 +1,5 @@
-use Rattle.std.proofs.Common.{◌≡◌, ◌<◌, min, List, length, get_or, sym, ap, ◌∙◌, arith}
-use Rattle.std.proofs.lemmas.List.{length-set, set-get_or}
+use Rattle.std.proofs.Common.{◌≡◌, ◌<◌, min, true, List, length, get_or, sym, ap, ◌∙◌, arith}
+use Rattle.std.proofs.lemmas.List.{length-set, set-get_or, get_or-set_same}
 use Rattle.rules.specs.Books.{Level, nothing_at, ranked_by}
 use Rattle.rules.specs.Lists.{any}
 use Rattle.rules.specs.Changes.{on_price}
@@ -11,7 +11,7 @@ use Rattle.levels.specs.Sides.{levels_of}
 use Rattle.resting.specs.Earned.{earned}
 use Rattle.resting.specs.Replenished.{joined}
 use Rattle.resting.proofs.Refilled.{level_of_side}
-use Rattle.resting.proofs.Renewed.{any_at, replenished_at, replenished_not, low-joined}
+use Rattle.resting.proofs.Renewed.{any_at, replenished_at, replenished_not, low_joined}
 use Rattle.resting.proofs.Off.{twice}
 use Rattle.resting.proofs.renewing.renew.Goals as goal
 
@@ -54,11 +54,15 @@ show_new_part-requires g c =
     let js = levels_of c.join_later_part.new.levels in
     let one : js ≡ joined rank lot e ls = c.join_later_part.ensures z ∙ sym (f.ensures.finds (join_hidden lot e.number) z) in
     let lt : f.result < length js = omega (arith, f.ensures.within, ap length (c.join_later_part.ensures z), length-set ms f.result (join_hidden lot e.number (get_or ms f.result z))) in
+    let changed = join_hidden lot e.number (get_or ms f.result z) in
+    let here : get_or js f.result z ≡ changed = ap (λ xs. get_or xs f.result z) (c.join_later_part.ensures z) ∙ get_or-set_same ms f.result changed z f.ensures.within in
+    let low : runs_low lot e.number (get_or js f.result z) ≡ true = ap (runs_low lot e.number) here ∙ low_joined lot e.number (get_or ms f.result z) (sym (c.if-not-is_low.ensures z)) in
+    let few : count (joined rank lot e ls) < 384 = c.requires.parts (ap (any (runs_low lot e.number)) (sym one) ∙ any_at (runs_low lot e.number) js f.result z lt low) in
     record {
       place = lt;
       known = c.requires.known;
       small = c.requires.display;
-      parts = λ low. (let few = c.requires.parts (ap (any (runs_low lot e.number)) (sym one) ∙ any_at (runs_low lot e.number) js f.result z lt low) in omega (arith, ap count one));
+      parts = omega (arith, few, ap count one);
       room = omega (arith, c.requires.room, c.join_later_part.auto.room);
     }
 
