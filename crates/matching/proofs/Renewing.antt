@@ -26,7 +26,8 @@ use Rattle.rules.proofs.Tending.{Midway, midway_renewed}
 use Rattle.orders.specs.declared.tables.Resting.{Resting}
 use Rattle.resting.specs.Earned.{earned}
 use Rattle.resting.specs.Replenished.{joined, replenished, RoomToShow}
-use Rattle.resting.proofs.Refilled.{length_on_price, on_price_twice}
+use Rattle.resting.proofs.Refilled.{length_on_price}
+use Rattle.resting.proofs.Renewed.{on_price_twice}
 use Rattle.matching.specs.Underway.{Underway}
 use Rattle.matching.proofs.Room.{room_to_show}
 
