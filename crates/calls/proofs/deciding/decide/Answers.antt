@@ -51,8 +51,8 @@ returns-in-Halted-Cancel g c = for_call _ _ c.in-Halted-Cancel.is-1 (c.cancel-in
 pub returns-in-Halted-Reduce : goal.returns-in-Halted-Reduce
 returns-in-Halted-Reduce g c = for_call _ _ c.in-Halted-Reduce.is-1 (c.reduce-in-Halted-Reduce.ensures _)
 
-pub returns-in-default : goal.returns-in-default
-returns-in-default g c =
+pub returns-in_default : goal.returns-in_default
+returns-in_default g c =
     let shut : phase_after c.args.state.now.phase c.args.call ≡ None = search rules in
     let e = refused_phase (book_of c.args.state.now) (length c.args.report.now) c.args.call c.requires.fine shut in
     for_reply c.refused.ensures (refused_follows _ _ _ _ _ _ c.requires.stands e)

@@ -7,4 +7,4 @@ pub call-requires : goal.call-requires
 call-requires g c = standing _ _ c.args.self.now.stands
 
 pub invariant_of-self : goal.invariant_of-self
-invariant_of-self g c = (keeps _ buyers_order g.D.Dealing.meaning g.met.D.Dealing.lawful c.call.ensures c.args.self.now.stands, tt)
+invariant_of-self g c = record { stands = keeps _ buyers_order g.D.Dealing.meaning g.met.D.Dealing.lawful c.call.ensures c.args.self.now.stands }

@@ -6,6 +6,6 @@ use Rattle.book.proofs.rankings.buyers.BuyersMemoryRankedMemory.make.Goals as go
 
 pub invariant_of-result : goal.invariant_of-result
 invariant_of-result c =
-    let s = c.in-ok-state.state in
-    let is = c.in-ok-state.was in
-    (makes _ buyers_order time time_lawful _ s c.args.lot is c.make.ensures.book (c.make.ensures.lot s is) (c.make.ensures.rows s is), tt)
+    let s = c.in_ok-state.state in
+    let is = c.in_ok-state.was in
+    record { stands = makes _ buyers_order time time_lawful _ s c.args.lot is c.make.ensures.book (c.make.ensures.lot s is) (c.make.ensures.rows s is) }
