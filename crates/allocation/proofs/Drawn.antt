@@ -1,7 +1,7 @@
 -- One claim more by time, over allotments in a list. Assumes nothing.
 use Rattle.std.proofs.Common.{◌≡◌, ℕ, ◌+◌, ◌-◌, ◌<◌, ◌≤◌, min, cond, eqb, List, [], ◌∷◌, ◌++◌, map, length, get_or, take, drop, set, sym, refl, ap, ◌∙◌, subst, ⊎_elim, arith}
 use mathlib.Core.Path.{fun_ext}
-use Rattle.std.specs.List.{AllByRecursion as All}
+use Rattle.std.specs.List.{AllByRecursion}
 use Rattle.std.proofs.ByRecursion.{All-get_or}
 use Rattle.std.proofs.lemmas.List.{append_assoc, take_more_set, drop_more, get_or-set_same, get_or-set_other}
 use Rattle.std.proofs.lemmas.Bool.{cases_eq, eq-eqb, ne_eqb}
@@ -16,7 +16,7 @@ amounts_less table k n h j =
     (cases_eq j k)
 
 -- the allotment of the claim that is read is there
-pub group_there : {X : Type 0} (draws : X → ℕ × ℕ) (cs : List X) (i : ℕ) (c : X) (k m : ℕ) → All (λ x. (draws x).0 < m) cs → i < length cs → c ≡ get_or cs i c → k ≡ (draws c).0 → k < m
+pub group_there : {X : Type 0} (draws : X → ℕ × ℕ) (cs : List X) (i : ℕ) (c : X) (k m : ℕ) → AllByRecursion (λ x. (draws x).0 < m) cs → i < length cs → c ≡ get_or cs i c → k ≡ (draws c).0 → k < m
 group_there draws cs i c k m all in-cs at ek =
     omega (arith, All-get_or (λ x. (draws x).0 < m) cs i c in-cs all, ek, ap (λ x. (draws x).0) at)
 
@@ -32,12 +32,12 @@ pub by_time_more : {X : Type 0} (draws : X → ℕ × ℕ) (cs : List X) (i : �
 by_time_more draws cs i c table table' shares x k n in-cs in-shares at ek en kl ex eh =
     more_at draws cs i c table table' shares x in-cs in-shares at (rw ek at kl) (rw (ek, en) at ex) (rw (ek, en) at eh)
 
-pub everyone : {X : Type 0} (P : X → Type 0) → ((x : X) → P x) → (xs : List X) → All P xs
+pub everyone : {X : Type 0} (P : X → Type 0) → ((x : X) → P x) → (xs : List X) → AllByRecursion P xs
 everyone P h [] = tt
 everyone P h (x ∷ xs) = (h x, everyone P h xs)
 
 -- where all draw on the first allotment, the others do not matter
-pub one_group_same : (cs : List (ℕ × ℕ)) (f g : ℕ → ℕ) → All (λ c. c.0 ≡ 0) cs → f 0 ≡ g 0 → time_shares f cs ≡ time_shares g cs
+pub one_group_same : (cs : List (ℕ × ℕ)) (f g : ℕ → ℕ) → AllByRecursion (λ c. c.0 ≡ 0) cs → f 0 ≡ g 0 → time_shares f cs ≡ time_shares g cs
 one_group_same [] f g zeros e = refl
 one_group_same (c ∷ cs) f g zeros e =
     let here : f c.0 ≡ g c.0 = ap f zeros.0 ∙ e ∙ sym (ap g zeros.0) in

@@ -1,11 +1,11 @@
 -- Shares in order: one quantity for sizes in a row. Assumes nothing.
 use Rattle.std.proofs.Common.{◌≡◌, ℕ, ◌+◌, ◌-◌, ◌≤◌, min, List, [], ◌∷◌, ◌++◌, map, length, sym, refl, ap, ◌∙◌, arith}
-use Rattle.std.specs.List.{AllByRecursion as All}
+use Rattle.std.specs.List.{AllByRecursion}
 use Rattle.allocation.specs.ByTime.{less, time_shares, shares_in_order}
 use Rattle.allocation.specs.Dealings.{sum}
 use Rattle.allocation.proofs.Drawn.{one_group_same}
 
-one_group : (ns : List ℕ) → All {X = ℕ × ℕ} (λ c. c.0 ≡ 0) (map (λ n. (0, n)) ns)
+one_group : (ns : List ℕ) → AllByRecursion {X = ℕ × ℕ} (λ c. c.0 ≡ 0) (map (λ n. (0, n)) ns)
 one_group [] = tt
 one_group (n ∷ ns) = (refl, one_group ns)
 

@@ -1,6 +1,6 @@
 -- There is always room on the wheel for one who has no seat. Assumes nothing.
 use Rattle.std.proofs.Common.{◌≡◌, ℕ, zero, suc, ◌+◌, ◌-◌, ◌<◌, ◌≤◌, Bool, true, false, cond, eqb, ltb, List, [], ◌∷◌, ◌++◌, length, take, drop, filter, sym, refl, ap, ◌∙◌, subst, ⊎_elim, arith}
-use Rattle.std.specs.List.{AllByRecursion as All}
+use Rattle.std.specs.List.{AllByRecursion}
 use Rattle.std.proofs.lemmas.Bool.{cases_eq, eq-eqb, ne_eqb, cond-true, cond-false, cond_both}
 use Rattle.std.proofs.lemmas.List.{take-append-drop}
 use Rattle.allocation.specs.Wheels.{seats_of}
@@ -38,7 +38,7 @@ under_none zero = refl
 under_none (suc n) = omega (arith, under_none n)
 
 -- a list is as long as its numbers are often
-length_seats : (n : ℕ) (xs : List ℕ) → All (λ x. x < n) xs → length xs ≡ under n (λ k. seats_of k xs)
+length_seats : (n : ℕ) (xs : List ℕ) → AllByRecursion (λ x. x < n) xs → length xs ≡ under n (λ k. seats_of k xs)
 length_seats n [] a = sym (under_none n)
 length_seats n (x ∷ xs) a =
     omega (arith, length_seats n xs a.1, under_add n (λ k. cond (eqb k x) 1 0) (λ k. seats_of k xs), under_point n x a.0)
@@ -60,7 +60,7 @@ under_two n p f once no_seat away pos below = go n below
         (λ ne. omega (arith, once n, go n (omega arith)))
         (cases_eq n p)
 
-all_known : (xs ys : List ℕ) → ((k : ℕ) → 0 < seats_of k ys → k < 25) → ((k : ℕ) → seats_of k xs ≤ seats_of k ys) → All (λ x. x < 25) xs
+all_known : (xs ys : List ℕ) → ((k : ℕ) → 0 < seats_of k ys → k < 25) → ((k : ℕ) → seats_of k xs ≤ seats_of k ys) → AllByRecursion (λ x. x < 25) xs
 all_known [] ys known within = tt
 all_known (x ∷ xs) ys known within =
     (known x (omega (arith, rw (eq-eqb x x refl) at (within x))), all_known xs ys known (λ k. omega (arith, within k)))

@@ -1,7 +1,7 @@
 -- The lead on one wheel: over any run of what happens to it, nobody takes more than a round lot above one who kept its seat.
 -- Assumes nothing.
 use Rattle.std.specs.Prelude.{◌≡◌, ℕ, ◌+◌, ◌<◌, ◌≤◌, Bool, cond, List, [], ◌∷◌, ◌++◌}
-use Rattle.std.specs.List.{AllByRecursion as All}
+use Rattle.std.specs.List.{AllByRecursion}
 use Rattle.allocation.specs.Wheels.{Wheel, seats_of, has_first_seat, take_last_seat, lose_seat, first_served}
 use Rattle.allocation.specs.Dealings.{Seated, interest, share_of, parity}
 use Rattle.allocation.specs.declared.claims.Claim.{Claim}
@@ -71,7 +71,7 @@ IsTurn (loses_seat p) = ⊥
 -- a run of turns alone from w to v in which each p takes its share; who has a seat in the end had it throughout
 pub record RunOfTurns (R : ℕ) (w v : Wheel) (share : ℕ → ℕ) : Type 0 where
   pub events : List Event
-  pub only : All IsTurn events
+  pub only : AllByRecursion IsTurn events
   pub legal : LegalRun R w events
   pub ends : run R w events ≡ v
   pub shares : (p : ℕ) → shares_taken R p w events ≡ share p

@@ -1,7 +1,7 @@
 -- What time-shares gives. Assumes nothing.
 use Rattle.std.specs.Prelude.{◌≡◌, ℕ, ◌+◌, ◌-◌, ◌*◌, ◌<◌, ◌≤◌, min, Bool, true, false, cond, ltb, ◌⊎◌, List, [], ◌∷◌, ◌++◌, map, filter, ◌==◌, nat_lt, refl}
 use Rattle.std.proofs.Common.{sym, ap, ◌∙◌, subst, inl, inr, ⊎_elim, arith, add-mul, zero-mul, one-mul, mul-one, mul-zero}
-use Rattle.std.specs.List.{AllByRecursion as All}
+use Rattle.std.specs.List.{AllByRecursion}
 use Rattle.std.proofs.lemmas.Bool.{cases_eq, eq-eqb, ne_eqb, eqb-true, eqb-false, ltb-true, ltb-false, cond_both}
 use Rattle.allocation.specs.Wheels.{Wheel, wheel_with, seats_of, first_stays}
 use Rattle.allocation.specs.ByTime.{less, time_shares, shares_in_order}
@@ -43,7 +43,7 @@ left_own p (c ∷ cs) (x ∷ xs) h =
 
 -- each claimant has a seat
 abbrev pub Placed : List ℕ → List Claim → Type 0
-Placed ps cs = All (λ c. min 1 c.size ≤ seats_of c.participant ps) cs
+Placed ps cs = AllByRecursion (λ c. min 1 c.size ≤ seats_of c.participant ps) cs
 
 placed_more : (ps : List ℕ) (f : ℕ → ℕ) → ((p : ℕ) → seats_of p ps ≡ min 1 (f p)) → (cs : List Claim) → ((p : ℕ) → interest p cs ≤ f p) → Placed ps cs
 placed_more ps f once [] h = tt

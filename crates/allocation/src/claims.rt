@@ -1,6 +1,6 @@
 //! Claims, and shares by time: one text for every kind of claim.
 ghost use Rattle.std.specs.Prelude.{◌≡◌, ℕ, ◌-◌, ◌<◌, min, map, length, slice_index, slice_set};
-ghost use Rattle.std.specs.List.{AllByRecursion as All};
+ghost use Rattle.std.specs.List.{AllByRecursion};
 ghost use Rattle.allocation.specs.ByTime.{time_shares, shares_in_order};
 ghost use Rattle.allocation.specs.declared.claims.Claim.{Claim};
 
@@ -75,7 +75,7 @@ pub(crate) fn by_time<G: Grouping, C: Claimed>(
     shares: &mut [u32],
 )
     requires one_each { length shares.old ≡ length claims.now }
-    requires groups_there { All (λ c. G.group (C.claim c) < length allotted.old) claims.now }
+    requires groups_there { AllByRecursion (λ c. G.group (C.claim c) < length allotted.old) claims.now }
     ensures { shares.new ≡ time_shares (λ k. slice_index allotted.old k) (map (λ c. (G.group (C.claim c), (C.claim c).size)) claims.now) }
 {
     for i in 0..claims.len() {

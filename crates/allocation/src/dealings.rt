@@ -1,6 +1,6 @@
 //! Dealings: how a quantity is dealt to claims.
 ghost use Rattle.std.specs.Prelude.{◌≡◌, ◌^◌, ◌<◌, map, length};
-ghost use Rattle.std.specs.List.{AllByRecursion as All};
+ghost use Rattle.std.specs.List.{AllByRecursion};
 ghost use Rattle.allocation.specs.Dealings.{Deal, Lawful, Seated, total, interest, time, parity};
 ghost use Rattle.allocation.specs.Memory.{wheel_of};
 ghost use Rattle.allocation.specs.Shares.{time_lawful};
@@ -25,7 +25,7 @@ pub trait Dealing {
         shares: &mut [u32],
     )
         requires one_each { length shares.old ≡ length claims.now }
-        requires known { All (λ c. (C.claim c).participant < 25) claims.now }
+        requires known { AllByRecursion (λ c. (C.claim c).participant < 25) claims.now }
         requires fits { total (map C.claim claims.now) < 2 ^ 32 }
         requires seated { Seated lot (wheel_of wheel.old) (λ p. interest p (map C.claim claims.now)) }
         ensures shares { shares.new ≡ (meaning quantity (wheel_of wheel.old) lot (map C.claim claims.now)).shares }

@@ -1,4 +1,6 @@
 //! How shares are allocated: ranking of prices, the parity wheel, claims, and the dealings by time and by parity.
+#![tactic(auto)]
+
 mod claims;
 mod dealings;
 mod laws;

@@ -1,6 +1,6 @@
 //! What participants have left, and turns of the wheel until all is dealt.
 ghost use Rattle.std.specs.Prelude.{◌≡◌, ℕ, ◌+◌, ◌-◌, ◌*◌, ◌^◌, ◌<◌, ◌≤◌, false, map, slice_index, slice_set};
-ghost use Rattle.std.specs.List.{AllByRecursion as All};
+ghost use Rattle.std.specs.List.{AllByRecursion};
 ghost use Rattle.allocation.specs.Dealings.{Seated, total, interest, claims_left};
 ghost use Rattle.allocation.specs.Turns.{turn, turns, over};
 ghost use Rattle.allocation.specs.Wheels.{seats_of};
@@ -32,7 +32,7 @@ fn share_at(shares: &[u32], i: usize) -> u32
 
 /// What each participant has left of its claims after their shares. A claim past the last share has all of its size left.
 pub(crate) fn interests_left<C: Claimed>(claims: &[C], shares: &[u32]) -> [u32; PLACES]
-    requires known { All (λ c. (C.claim c).participant < 25) claims.now }
+    requires known { AllByRecursion (λ c. (C.claim c).participant < 25) claims.now }
     requires fits { total (map C.claim claims.now) < 2 ^ 32 }
     ensures { (p : ℕ) → amounts result p ≡ interest p (claims_left (map C.claim claims.now) shares.now) }
 {

@@ -1,4 +1,6 @@
 //! Amounts along the parts of a queue: what they come to, and how a quantity is shared out among some of them.
+#![tactic(auto)]
+
 mod sharing;
 mod sizes;
 mod summing;

@@ -1,4 +1,6 @@
 //! A list of bounded length in the front of an array: no heap, no allocation.
+#![tactic(auto)]
+
 ghost use Rattle.std.specs.Prelude.{◌≡◌, ◌≤◌, ⊤, length};
 
 mod changing;

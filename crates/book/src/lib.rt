@@ -1,4 +1,6 @@
 //! The book: made, called and looked at. No call of it asks anything of its caller.
+#![tactic(auto)]
+
 mod books;
 mod keeping;
 mod laws;

@@ -1,4 +1,6 @@
 //! A worked session through the calls of a book, by parity and by time: rows, parts and wheels, as they stand in the book.
+#![tactic(auto)]
+
 mod printing;
 mod session;
 

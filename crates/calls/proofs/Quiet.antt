@@ -1,6 +1,6 @@
 -- Calls that trade nothing and give nothing back: what the rule makes of a sound book.
 use Rattle.std.proofs.Common.{◌≡◌, ℕ, ◌+◌, ◌<◌, ◌≤◌, Bool, true, false, cond, not, ◌&&◌, ◌||◌, ltb, List, [], ◌∷◌, map, length, Some, None, filter, Option, sym, refl, ap, ◌∙◌, subst, arith}
-use Rattle.std.specs.List.{AllByRecursion as All}
+use Rattle.std.specs.List.{AllByRecursion}
 use Rattle.std.proofs.lemmas.Bool.{lt-ltb}
 use Rattle.std.proofs.ByRecursion.{All-weaker}
 use Rattle.allocation.specs.Dealings.{Deal}
@@ -32,11 +32,11 @@ use Rattle.memory.specs.declared.replies.Reply.{Reply}
 
 -- ## Tidying a book that is tidy
 
-kept_all : {X : Type 0} (t : X → Bool) (xs : List X) → All (λ x. t x ≡ true) xs → filter t xs ≡ xs
+kept_all : {X : Type 0} (t : X → Bool) (xs : List X) → AllByRecursion (λ x. t x ≡ true) xs → filter t xs ≡ xs
 kept_all t [] h = refl
 kept_all t (x ∷ xs) h = let ih = kept_all t xs h.1 in rw h.0 (ap (λ l. x ∷ l) ih)
 
-pub tidy_still : (b : Book) → All (λ l. holds l ≡ true) b.buys → All (λ l. holds l ≡ true) b.sells → All (λ e. 0 < resting e.number b) b.orders → tidy b ≡ b
+pub tidy_still : (b : Book) → AllByRecursion (λ l. holds l ≡ true) b.buys → AllByRecursion (λ l. holds l ≡ true) b.sells → AllByRecursion (λ e. 0 < resting e.number b) b.orders → tidy b ≡ b
 unfolding tidy
 tidy_still b bs ss rests =
     let o = kept_all (λ e. ltb 0 (resting e.number b)) b.orders (All-weaker (λ e. 0 < resting e.number b) (λ e. ltb 0 (resting e.number b) ≡ true) (λ e h. lt-ltb 0 (resting e.number b) h) b.orders rests) in
@@ -72,16 +72,16 @@ module _ (rank : Ranking) (deal : Deal) (before after : State) (rows : List Row)
   abbrev b : Book
   b = book_of before
 
-  rests : All (λ e. 0 < resting e.number b) b.orders
+  rests : AllByRecursion (λ e. 0 < resting e.number b) b.orders
   rests = All-weaker (λ (e : Order). (0 < resting e.number b) × (resting e.number b ≤ e.quantity)) (λ e. 0 < resting e.number b) (λ e h. h.0) b.orders s.sound.resting
 
   -- a book x with the same orders, of which as much rests as before
   changed : (c : Call) (q : Phase) (x : Book) → first (refusals b (length rows) c) ≡ None → phase_after b.phase c ≡ Some q → effect rank deal b c ≡ done 0 0 [] x
-      → All (λ l. holds l ≡ true) x.buys → All (λ l. holds l ≡ true) x.sells → x.orders ≡ b.orders → ((n : ℕ) → resting n x ≡ resting n b) → book_of after ≡ with_phase q x
+      → AllByRecursion (λ l. holds l ≡ true) x.buys → AllByRecursion (λ l. holds l ≡ true) x.sells → x.orders ≡ b.orders → ((n : ℕ) → resting n x ≡ resting n b) → book_of after ≡ with_phase q x
       → Follows rank deal c before rows after rows (record { answer = Accepted 0 0; rows = 0 })
   changed c q x fine next does buys sells orders same is =
-      let still : All (λ e. 0 < resting e.number x) x.orders =
-      subst (λ es. All (λ e. 0 < resting e.number x) es) (sym orders) (All-weaker (λ (e : Order). 0 < resting e.number b) (λ e. 0 < resting e.number x) (λ e h. subst (λ m. 0 < m) (sym (same e.number)) h) b.orders rests) in
+      let still : AllByRecursion (λ e. 0 < resting e.number x) x.orders =
+      subst (λ es. AllByRecursion (λ e. 0 < resting e.number x) es) (sym orders) (All-weaker (λ (e : Order). 0 < resting e.number b) (λ e. 0 < resting e.number x) (λ e h. subst (λ m. 0 < m) (sym (same e.number)) h) b.orders rests) in
       quiet rank deal c q x before after rows fine next does (tidy_still (with_phase q x) buys sells still ∙ sym is)
       (same_tally b (book_of after) (rows_of before.orders) (rows_of after.orders) table (λ n. ap (resting n) is ∙ same n) s.tallied)
 
@@ -104,7 +104,7 @@ module _ (rank : Ranking) (deal : Deal) (before after : State) (rows : List Row)
       (ap (λ t. first ((Refusal.AwayPrice, t) ∷ (Refusal.Phase, none (phase_after b.phase (Quote bid offer))) ∷ [])) fine ∙ ap (λ o. first ((Refusal.Phase, none o) ∷ [])) next)
       next refl s.sound.buys.occupied s.sound.sells.occupied refl (λ n. refl) is
 
-  plain_holds : (ls : List Level) → All (λ l. holds l ≡ true) ls → All (λ l. holds l ≡ true) (unmarked ls)
+  plain_holds : (ls : List Level) → AllByRecursion (λ l. holds l ≡ true) ls → AllByRecursion (λ l. holds l ≡ true) (unmarked ls)
   plain_holds [] h = tt
   plain_holds (l ∷ ls) h = (ap (λ t. not (t && empty l.hidden.parts)) (plain_empty l.shown.parts) ∙ h.0, plain_holds ls h.1)
 

@@ -1,6 +1,6 @@
 -- Which refusal comes first, and what a refused call leaves.
 use Rattle.std.proofs.Common.{◌≡◌, ℕ, Bool, true, false, cond, eqb, leb, List, [], ◌∷◌, ◌++◌, length, Some, None, Option, sym, refl, ap, ◌∙◌, subst}
-use Rattle.std.specs.List.{AllByRecursion as All}
+use Rattle.std.specs.List.{AllByRecursion}
 use Rattle.allocation.specs.Dealings.{Deal}
 use Rattle.rules.specs.declared.phases.Phase.{Phase}
 use Rattle.rules.specs.declared.calls.Call.{Call}
@@ -92,5 +92,5 @@ pub for_reply : {rank : Ranking} {deal : Deal} {c : Call} {before after : State}
 for_reply {rank} {deal} {c} {before} {after} {rows} {rows'} {r} {q} e f = subst (λ x. Follows rank deal c before rows after rows' x) (sym e) f
 
 -- what an order says is fine, test by test
-pub entry_fine : (lot room : ℕ) (e : Order) → first (entry_inputs lot room e) ≡ None → All (λ x. x.1 ≡ false) (entry_inputs lot room e)
+pub entry_fine : (lot room : ℕ) (e : Order) → first (entry_inputs lot room e) ≡ None → AllByRecursion (λ x. x.1 ≡ false) (entry_inputs lot room e)
 entry_fine lot room e h = none_applies (entry_inputs lot room e) h

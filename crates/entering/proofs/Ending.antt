@@ -1,6 +1,6 @@
 -- An enter, by its trades and by what becomes of the remainder. Assumes nothing.
 use Rattle.std.proofs.Common.{◌≡◌, ℕ, ◌+◌, ◌-◌, Bool, true, false, eqb, List, [], ◌∷◌, ◌++◌, map, sym, refl, ap, ◌∙◌, append-nil, arith}
-use Rattle.std.specs.List.{AllByRecursion as All}
+use Rattle.std.specs.List.{AllByRecursion}
 use Rattle.std.proofs.ByRecursion.{All-push, All-weaker}
 use Rattle.std.proofs.lemmas.Bool.{eq-eqb, ne_eqb}
 use Rattle.allocation.specs.Dealings.{Deal}
@@ -86,16 +86,16 @@ module _ (rank : Ranking) (e : Order) (n : ℕ) (b : Book) where
 
 -- ## The table
 
-listed_rows : (P : Order → Type 0) (rows : List Resting) → All P (map (λ (r : Resting). r.order) rows) → All (λ (r : Resting). P r.order) rows
+listed_rows : (P : Order → Type 0) (rows : List Resting) → AllByRecursion P (map (λ (r : Resting). r.order) rows) → AllByRecursion (λ (r : Resting). P r.order) rows
 listed_rows P [] h = tt
 listed_rows P (r ∷ rows) h = (h.0, listed_rows P rows h.1)
 
-both_rows : (P Q : Resting → Type 0) (rows : List Resting) → All P rows → All Q rows → All (λ r. P r × Q r) rows
+both_rows : (P Q : Resting → Type 0) (rows : List Resting) → AllByRecursion P rows → AllByRecursion Q rows → AllByRecursion (λ r. P r × Q r) rows
 both_rows P Q [] p q = tt
 both_rows P Q (r ∷ rows) p q = ((p.0, q.0), both_rows P Q rows p.1 q.1)
 
 -- the table with the new order tells what rests
-pub tallied_placed : (rank : Ranking) (e : Order) (n : ℕ) (rows : List Resting) (b : Book) → rests e.kind ≡ true → resting e.number b ≡ 0 → All (λ o. eqb e.number o.number ≡ false) (map (λ (r : Resting). r.order) rows) → Tallied rows b
+pub tallied_placed : (rank : Ranking) (e : Order) (n : ℕ) (rows : List Resting) (b : Book) → rests e.kind ≡ true → resting e.number b ≡ 0 → AllByRecursion (λ o. eqb e.number o.number ≡ false) (map (λ (r : Resting). r.order) rows) → Tallied rows b
     → Tallied (rows ++ (record { order = e; quantity = n } ∷ [])) (with_order e (place rank e.kind e n b))
 tallied_placed rank e n rows b r absent new t =
     All-push (λ x. x.quantity ≡ resting x.order.number (place rank e.kind e n b)) rows (record { order = e; quantity = n })

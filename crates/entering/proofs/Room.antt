@@ -1,7 +1,7 @@
 -- The room that trading leaves for what is left of an order. Assumes nothing.
 use Rattle.std.proofs.Common.{◌≡◌, ℕ, ◌+◌, ◌*◌, ◌<◌, ◌≤◌, min, Bool, true, false, cond, not, ◌&&◌, eqb, leb, List, [], ◌∷◌, length, fold, sym, refl, ap, ◌∙◌, subst, arith}
 use mathlib.Core.Bool.{false≢true}
-use Rattle.std.specs.List.{AllByRecursion as All}
+use Rattle.std.specs.List.{AllByRecursion}
 use Rattle.std.proofs.lemmas.List.{length-map}
 use Rattle.std.proofs.lemmas.Bool.{leb-true, leb-false, not-false, and_parts}
 use Rattle.std.proofs.ByRecursion.{All-weaker}
@@ -82,7 +82,7 @@ module _ (rank : Ranking) (O : TotalOrder rank.good) (deal : Deal) (D : Lawful d
     met : Book
     met = with_side (other e.side) (met_side rank O deal D b e) (arrived e b)
 
-    displays : All Displays b.orders
+    displays : AllByRecursion Displays b.orders
     displays = All-weaker (Admitted b.lot) Displays (λ x a. admitted_displays b.lot x a) b.orders s.admitted
 
     midway : Midway rank O b.lot s.lot b.orders (trade rank deal e (arrived e b)).rest
@@ -117,7 +117,7 @@ module _ (rank : Ranking) (O : TotalOrder rank.good) (deal : Deal) (D : Lawful d
     rows_few =
         let t : Side = other e.side in
         let m : Small b = sound_small rank O b s in
-        let g : All (SoundLevel b.lot) (side t b) = side_good b.lot t b (sound_fit rank b s).sides in
+        let g : AllByRecursion (SoundLevel b.lot) (side t b) = side_good b.lot t b (sound_fit rank b s).sides in
         let few = side_few deal D b.lot e.number b.steps (in_reach rank (arrived e b) e) e.quantity (side t b) g in
         go t few m.parts
       where
@@ -135,7 +135,7 @@ module _ (rank : Ranking) (O : TotalOrder rank.good) (deal : Deal) (D : Lawful d
           known = ((bounds 1 24 e.participant a.participant).0, (let h = (bounds 1 24 e.participant a.participant).1 in omega (arith, h)));
           small = (bounds 1 500000 e.quantity a.quantity).1;
           left = (T.even 0).less;
-          unlisted = subst (λ os. All (λ o. eqb e.number o.number ≡ false) os) (sym T.same.orders) (rising_below b.last e.number b.orders s.rising a.new);
+          unlisted = subst (λ os. AllByRecursion (λ o. eqb e.number o.number ≡ false) os) (sym T.same.orders) (rising_below b.last e.number b.orders s.rising a.new);
           absent = omega (arith, (T.even e.number).rest, (sound_fit rank b s).fresh e.number a.new);
           table = λ k. (let h = room k in omega (arith, h, ap length T.same.orders));
           parts = λ k. (let h = room k in omega (arith, h, parts_left e.side, count_parts (side e.side r.rest)));

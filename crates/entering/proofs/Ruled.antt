@@ -1,7 +1,7 @@
 -- The rule of an enter. Assumes nothing.
 use Rattle.std.proofs.Common.{◌≡◌, ℕ, ◌≤◌, Bool, true, false, cond, List, [], ◌∷◌, ◌++◌, Some, None, sym, refl, ap, ◌∙◌}
 use mathlib.Core.Bool.{false≢true}
-use Rattle.std.specs.List.{AllByRecursion as All}
+use Rattle.std.specs.List.{AllByRecursion}
 use Rattle.std.proofs.lemmas.Bool.{leb-false, ltb-false}
 use Rattle.allocation.specs.Dealings.{Deal}
 use Rattle.rules.specs.declared.orders.Order.{Order}
@@ -20,7 +20,7 @@ use Rattle.rules.proofs.Remainder.{EntryAllowed}
 use Rattle.entering.specs.Refused.{Presentable, late_refusals}
 
 -- refusals whose tests fail are passed over
-passed : (xs ys : List (Refusal × Bool)) → All (λ (x : Refusal × Bool). x.1 ≡ false) xs → first (xs ++ ys) ≡ first ys
+passed : (xs ys : List (Refusal × Bool)) → AllByRecursion (λ (x : Refusal × Bool). x.1 ≡ false) xs → first (xs ++ ys) ≡ first ys
 passed [] ys h = refl
 passed (x ∷ xs) ys h = ap (λ t. cond t (Some x.0) (first (xs ++ ys))) h.0 ∙ passed xs ys h.1
 

@@ -1,6 +1,6 @@
 -- What becomes of what is left of an order. Assumes nothing.
 use Rattle.std.specs.Prelude.{◌≡◌, ℕ, ◌+◌, ◌<◌, ◌≤◌, true, false, [], length, ◌==◌}
-use Rattle.std.specs.List.{AllByRecursion as All}
+use Rattle.std.specs.List.{AllByRecursion}
 use Rattle.rules.specs.declared.orders.Order.{Order}
 use Rattle.rules.specs.Books.{Ranking, Book, side}
 use Rattle.rules.specs.Quantities.{resting}
@@ -17,7 +17,7 @@ pub record Ready (e : Order) (n : ℕ) (b : Book) : Type 0 where
   pub known : (0 < e.participant) × (e.participant < 25)
   pub small : e.quantity ≤ 500000
   pub left : n ≤ e.quantity
-  pub unlisted : All (λ o. (e.number == o.number) ≡ false) b.orders
+  pub unlisted : AllByRecursion (λ o. (e.number == o.number) ≡ false) b.orders
   pub absent : resting e.number b ≡ 0
   pub table : rests e.kind ≡ true → length b.orders < 128
   pub parts : rests e.kind ≡ true → count (side e.side b) + 2 ≤ 384

@@ -1,4 +1,6 @@
 //! An order arrives, trades, and what is left of it is placed or given back.
+#![tactic(auto)]
+
 mod entering;
 mod kinds;
 mod refusing;

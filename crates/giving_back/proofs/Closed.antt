@@ -1,6 +1,6 @@
 -- Every order is given back. Assumes nothing.
 use Rattle.std.proofs.Common.{◌≡◌, ℕ, ◌+◌, ◌*◌, ◌<◌, ◌≤◌, false, ltb, List, [], ◌∷◌, map, length, get_or, drop, sym, refl, ap, ◌∙◌, arith}
-use Rattle.std.specs.List.{AllByRecursion as All}
+use Rattle.std.specs.List.{AllByRecursion}
 use Rattle.std.proofs.lemmas.List.{at_drop_more}
 use Rattle.std.proofs.lemmas.Bool.{le-ltb}
 use Rattle.rules.specs.declared.orders.Order.{Order}
@@ -27,7 +27,7 @@ pub length_backs : (rows : List Resting) → length (backs rows) ≡ length rows
 length_backs [] = refl
 length_backs (r ∷ rows) = omega (arith, length_backs rows)
 
-pub backs_few : (rows : List Resting) → All (λ r. r.quantity ≤ 500000) rows → sum_of row_given_back (backs rows) ≤ 500000 * length rows
+pub backs_few : (rows : List Resting) → AllByRecursion (λ r. r.quantity ≤ 500000) rows → sum_of row_given_back (backs rows) ≤ 500000 * length rows
 backs_few [] a = omega arith
 backs_few (r ∷ rows) a = omega (arith, a.0, backs_few rows a.1)
 
@@ -42,7 +42,7 @@ shut b os bs ss o x y =
     ap (λ l. with_phase Shut (with_orders l (with_sides bs ss b))) o ∙ ap (λ l. with_phase Shut (with_orders [] (with_sides l ss b))) x ∙ ap (λ l. with_phase Shut (with_orders [] (with_sides [] l b))) y
     ∙ sym (tidy_as c [] [] [] (kept_none (λ e. ltb 0 (resting e.number c)) b.orders (each b.orders)) refl refl)
   where
-    each : (es : List Order) → All (λ e. ltb 0 (resting e.number (with_phase Shut (with_sides [] [] b))) ≡ false) es
+    each : (es : List Order) → AllByRecursion (λ e. ltb 0 (resting e.number (with_phase Shut (with_sides [] [] b))) ≡ false) es
     each [] = tt
     each (e ∷ es) = (le-ltb 0 0 (omega arith), each es)
 

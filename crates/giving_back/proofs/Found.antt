@@ -1,7 +1,7 @@
 -- Where the orders of a sound book rest. Assumes nothing.
 use Rattle.std.proofs.Common.{◌≡◌, ℕ, ◌+◌, ◌<◌, ◌≤◌, true, false, ◌&&◌, eqb, List, [], ◌∷◌, length, get_or, take, drop, sym, refl, ap, ◌∙◌, subst, arith}
 use mathlib.Core.Bool.{false≢true}
-use Rattle.std.specs.List.{AllByRecursion as All}
+use Rattle.std.specs.List.{AllByRecursion}
 use Rattle.std.proofs.lemmas.List.{take_all}
 use Rattle.std.proofs.lemmas.Bool.{and_parts, and_right, ne_eqb}
 use Rattle.std.proofs.ByRecursion.{All-weaker, All-take, All-drop}
@@ -23,7 +23,7 @@ use Rattle.giving_back.specs.Places.{RestsAt}
 use Rattle.giving_back.proofs.Keeping.{apart_after, not_among}
 
 -- a number that is not in the table does not rest
-pub unlisted_rests : (rank : Ranking) (b : Book) (n : ℕ) → SoundBook rank b → All (λ e. (e.number ≡ n → ⊥)) b.orders → resting n b ≡ 0
+pub unlisted_rests : (rank : Ranking) (b : Book) (n : ℕ) → SoundBook rank b → AllByRecursion (λ e. (e.number ≡ n → ⊥)) b.orders → resting n b ≡ 0
 unlisted_rests rank b n s a = none (resting n b) (λ some. false≢true (sym (not_among (λ e. e.number) n b.orders a) ∙ resting_listed b.orders n b (s.buys.orderly, s.sells.orderly) some))
   where
     none : (k : ℕ) → (0 < k → ⊥) → k ≡ 0
@@ -43,7 +43,7 @@ pub rest_on : (n : ℕ) (b : Book) (t : Side) → resting n b ≡ of_side n (sid
 rest_on n b Buy = refl
 rest_on n b Sell = omega arith
 
-pub none_on : (lot n : ℕ) (ls : List Level) → All (Without lot n) ls → of_side n ls ≡ 0
+pub none_on : (lot n : ℕ) (ls : List Level) → AllByRecursion (Without lot n) ls → of_side n ls ≡ 0
 none_on lot n [] a = refl
 none_on lot n (l ∷ ls) a = omega (arith, a.0.none, none_on lot n ls a.1)
 
@@ -58,34 +58,34 @@ module _ (b : Book) (e : Order) (u : Unique b.orders e) where
         none = omega (arith, none_of b.orders t l.price e.number l.shown.parts s.1.0.listed never, none_of b.orders t l.price e.number l.hidden.parts s.1.1.listed never);
       }
 
-  both : (rank : Ranking) (t : Side) → SoundBook rank b → All (λ l. SoundLevel b.lot l × Orderly b.orders t l) (side t b)
+  both : (rank : Ranking) (t : Side) → SoundBook rank b → AllByRecursion (λ l. SoundLevel b.lot l × Orderly b.orders t l) (side t b)
   both rank t s = let ss = sound_on rank b t s in all_both (SoundLevel b.lot) (Orderly b.orders t) (side t b) ss.sound ss.orderly
 
   -- the other side has nothing of it
-  other_side : (rank : Ranking) → SoundBook rank b → All (Without b.lot e.number) (side (other e.side) b)
+  other_side : (rank : Ranking) → SoundBook rank b → AllByRecursion (Without b.lot e.number) (side (other e.side) b)
   other_side rank s =
       let t : Side = other e.side in
       All-weaker (λ l. SoundLevel b.lot l × Orderly b.orders t l) (Without b.lot e.number) (λ l h. without t l h (ap (λ x. x && eqb e.price l.price) (apart_sides e.side))) (side t b) (both rank t s)
 
   -- nor have levels of its side at other prices
-  away_from : (ls : List Level) → All (λ l. SoundLevel b.lot l × Orderly b.orders e.side l) ls → All (λ l. (l.price ≡ e.price → ⊥)) ls → All (Without b.lot e.number) ls
+  away_from : (ls : List Level) → AllByRecursion (λ l. SoundLevel b.lot l × Orderly b.orders e.side l) ls → AllByRecursion (λ l. (l.price ≡ e.price → ⊥)) ls → AllByRecursion (Without b.lot e.number) ls
   away_from [] h a = tt
   away_from (l ∷ ls) h a = (without e.side l h.0 (and_right (same_side e.side e.side) (eqb e.price l.price) (ne_eqb e.price l.price (λ z. a.0 (sym z)))), away_from ls h.1 a.1)
 
   -- the level at its price is the one where it rests
   pub found_at : (rank : Ranking) (O : TotalOrder rank.good) → SoundBook rank b → 0 < resting e.number b → (i : ℕ) (ls : List Level) (d : Level) → ls ≡ side e.side b → i ≤ length ls
-      → (i < length ls → (get_or ls i d).price ≡ e.price) → All (λ l. (l.price ≡ e.price → ⊥)) (take i ls) → RestsAt b e i
+      → (i < length ls → (get_or ls i d).price ≡ e.price) → AllByRecursion (λ l. (l.price ≡ e.price → ⊥)) (take i ls) → RestsAt b e i
   found_at rank O s some i ls d is le found before =
       let t : Side = e.side in
-      let good : All (λ l. SoundLevel b.lot l × Orderly b.orders t l) ls = subst (λ (l : List Level). All (λ l. SoundLevel b.lot l × Orderly b.orders t l) l) (sym is) (both rank t s) in
+      let good : AllByRecursion (λ l. SoundLevel b.lot l × Orderly b.orders t l) ls = subst (λ (l : List Level). AllByRecursion (λ l. SoundLevel b.lot l × Orderly b.orders t l) l) (sym is) (both rank t s) in
       let once : Distinct (prices ls) = subst (λ (l : List Level). Distinct (prices l)) (sym is) (sorted_once rank O t (prices (side t b)) (sound_on rank b t s).sorted) in
       let elsewhere = other_side rank s in
       let past : length ls ≤ i → ⊥ = λ over.
-      (let none : of_side e.number ls ≡ 0 = none_on b.lot e.number ls (away_from ls good (subst (λ (l : List Level). All (λ l. (l.price ≡ e.price → ⊥)) l) (take_all i ls over) before)) in
+      (let none : of_side e.number ls ≡ 0 = none_on b.lot e.number ls (away_from ls good (subst (λ (l : List Level). AllByRecursion (λ l. (l.price ≡ e.price → ⊥)) l) (take_all i ls over) before)) in
       let here : of_side e.number (side t b) ≡ 0 = ap (of_side e.number) (sym is) ∙ none in
       omega (arith, rest_on e.number b t, none_on b.lot e.number (side (other t) b) elsewhere)) in
       let lt : i < length ls = within i (length ls) past in
-      let after : All (λ l. (l.price ≡ e.price → ⊥)) (drop (i + 1) ls) = subst (λ v. All (λ (l : Level). (l.price ≡ v → ⊥)) (drop (i + 1) ls)) (found lt) (apart_after (λ l. l.price) ls i d once lt) in
+      let after : AllByRecursion (λ l. (l.price ≡ e.price → ⊥)) (drop (i + 1) ls) = subst (λ v. AllByRecursion (λ (l : Level). (l.price ≡ v → ⊥)) (drop (i + 1) ls)) (found lt) (apart_after (λ l. l.price) ls i d once lt) in
       let alone : Alone b.lot e.number i ls = record { before = away_from (take i ls) (All-take _ i ls good) before; after = away_from (drop (i + 1) ls) (All-drop _ (i + 1) ls good) after } in
       record { place = subst (λ (l : List Level). i < length l) is lt; alone = subst (λ (l : List Level). Alone b.lot e.number i l) is alone; elsewhere = elsewhere }
     where

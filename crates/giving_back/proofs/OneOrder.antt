@@ -1,6 +1,6 @@
 -- One order of the table is cancelled or reduced. Assumes nothing.
 use Rattle.std.proofs.Common.{◌≡◌, ℕ, suc, ◌+◌, ◌-◌, ◌<◌, ◌≤◌, min, Bool, true, false, cond, eqb, ltb, List, [], ◌∷◌, ◌++◌, map, length, get_or, take, drop, set, filter, sym, refl, ap, ◌∙◌, subst, ⊎_elim, arith}
-use Rattle.std.specs.List.{AllByRecursion as All}
+use Rattle.std.specs.List.{AllByRecursion}
 use Rattle.std.proofs.lemmas.List.{take-set, drop-set-lt, length-set, set_split}
 use Rattle.std.proofs.lemmas.Bool.{eq-eqb, ne_eqb, lt-ltb, le-ltb, cases_Bool, cond-false}
 use Rattle.std.proofs.ByRecursion.{All-weaker, All-take, All-drop, All-set, All-append}
@@ -63,8 +63,8 @@ module _ (rank : Ranking) (b : Book) (sound : SoundBook rank b) (rows : List Res
   pub place_after : (m : ℕ) → i < length (side own (take_off number m b))
   place_after m = omega (arith, ap length (own_side m), length-set (side own b) i (level_after m), at.place)
 
-  other_full : (m : ℕ) → All (λ l. holds l ≡ true) (side (other own) (take_off number m b))
-  other_full m = subst (λ (l : List Level). All (λ l. holds l ≡ true) l) (sym (other_side m)) (sound_on rank b (other own) sound).occupied
+  other_full : (m : ℕ) → AllByRecursion (λ l. holds l ≡ true) (side (other own) (take_off number m b))
+  other_full m = subst (λ (l : List Level). AllByRecursion (λ l. holds l ≡ true) l) (sym (other_side m)) (sound_on rank b (other own) sound).occupied
 
   own_kept : (m : ℕ) → filter holds (side own (take_off number m b)) ≡ dropped i d (side own (take_off number m b))
   own_kept m =
@@ -72,7 +72,7 @@ module _ (rank : Ranking) (b : Book) (sound : SoundBook rank b) (rows : List Res
       let full = (sound_on rank b own sound).occupied in
       let front : take i ls ≡ take i (side own b) = ap (take i) (own_side m) ∙ take-set (side own b) i (level_after m) in
       let back : drop (i + 1) ls ≡ drop (i + 1) (side own b) = ap (drop (i + 1)) (own_side m) ∙ drop-set-lt (i + 1) (side own b) i (level_after m) (omega arith) in
-      kept_one holds ls i d (place_after m) (subst (λ (l : List Level). All (λ l. holds l ≡ true) l) (sym front) (All-take (λ l. holds l ≡ true) i (side own b) full)) (subst (λ (l : List Level). All (λ l. holds l ≡ true) l) (sym back) (All-drop (λ l. holds l ≡ true) (i + 1) (side own b) full))
+      kept_one holds ls i d (place_after m) (subst (λ (l : List Level). AllByRecursion (λ l. holds l ≡ true) l) (sym front) (All-take (λ l. holds l ≡ true) i (side own b) full)) (subst (λ (l : List Level). AllByRecursion (λ l. holds l ≡ true) l) (sym back) (All-drop (λ l. holds l ≡ true) (i + 1) (side own b) full))
 
   -- ## The rows
 
@@ -80,22 +80,22 @@ module _ (rank : Ranking) (b : Book) (sound : SoundBook rank b) (rows : List Res
   abbrev Untouched : ℕ → Resting → Type 0
   Untouched m x = (x.quantity ≡ resting x.order.number (take_off number m b)) × (0 < resting x.order.number (take_off number m b))
 
-  untouched : (m : ℕ) (xs : List Resting) → All (λ x. x.quantity ≡ resting x.order.number b) xs → All (λ x. (0 < resting x.order.number b) × (resting x.order.number b ≤ x.order.quantity)) xs → All (λ x. (x.order.number ≡ number → ⊥)) xs → All (Untouched m) xs
+  untouched : (m : ℕ) (xs : List Resting) → AllByRecursion (λ x. x.quantity ≡ resting x.order.number b) xs → AllByRecursion (λ x. (0 < resting x.order.number b) × (resting x.order.number b ≤ x.order.quantity)) xs → AllByRecursion (λ x. (x.order.number ≡ number → ⊥)) xs → AllByRecursion (Untouched m) xs
   untouched m [] t s a = tt
   untouched m (x ∷ xs) t s a =
       let same : resting x.order.number (take_off number m b) ≡ resting x.order.number b = other_rest b number m x.order.number a.0 in
       ((t.0 ∙ sym same, omega (arith, s.0.0)), untouched m xs t.1 s.1 a.1)
 
-  abbrev all_rest : All (λ x. (0 < resting x.order.number b) × (resting x.order.number b ≤ x.order.quantity)) rows
+  abbrev all_rest : AllByRecursion (λ x. (0 < resting x.order.number b) × (resting x.order.number b ≤ x.order.quantity)) rows
   all_rest = rows_rest rank b rows is sound
 
-  front_rows : (m : ℕ) → All (Untouched m) (take k rows)
+  front_rows : (m : ℕ) → AllByRecursion (Untouched m) (take k rows)
   front_rows m = untouched m (take k rows) (All-take _ k rows tallied) (All-take _ k rows all_rest) row.before
 
-  back_rows : (m : ℕ) → All (Untouched m) (drop (k + 1) rows)
+  back_rows : (m : ℕ) → AllByRecursion (Untouched m) (drop (k + 1) rows)
   back_rows m = untouched m (drop (k + 1) rows) (All-drop _ (k + 1) rows tallied) (All-drop _ (k + 1) rows all_rest) row.after
 
-  rests : (m : ℕ) (xs : List Resting) → All (Untouched m) xs → All (λ x. ltb 0 (resting x.order.number (take_off number m b)) ≡ true) xs
+  rests : (m : ℕ) (xs : List Resting) → AllByRecursion (Untouched m) xs → AllByRecursion (λ x. ltb 0 (resting x.order.number (take_off number m b)) ≡ true) xs
   rests m = All-weaker (Untouched m) (λ x. ltb 0 (resting x.order.number (take_off number m b)) ≡ true) (λ x h. lt-ltb 0 (resting x.order.number (take_off number m b)) h.1)
 
   -- ## A cancel
@@ -140,11 +140,11 @@ module _ (rank : Ranking) (b : Book) (sound : SoundBook rank b) (rows : List Res
     abbrev rows_after : List Resting
     rows_after = set rows k (less r m)
 
-    rows_untouched : All (Untouched m) rows_after
+    rows_untouched : AllByRecursion (Untouched m) rows_after
     rows_untouched =
         let next : k + 1 ≡ suc k = omega arith in
         let own_row : Untouched m (less r m) = (sym own_left, omega (arith, own_left)) in
-        subst (λ (l : List Resting). All (Untouched m) l) (sym (set_split rows k (less r m) lt)) (All-append (Untouched m) (take k rows) (less r m ∷ drop (suc k) rows) (front_rows m) (own_row, subst (λ n. All (Untouched m) (drop n rows)) next (back_rows m)))
+        subst (λ (l : List Resting). AllByRecursion (Untouched m) l) (sym (set_split rows k (less r m) lt)) (All-append (Untouched m) (take k rows) (less r m ∷ drop (suc k) rows) (front_rows m) (own_row, subst (λ n. AllByRecursion (Untouched m) (drop n rows)) next (back_rows m)))
 
     pub reduced_orders : map (λ x. x.order) rows_after ≡ map (λ x. x.order) rows
     reduced_orders = map_same_set (λ x. x.order) rows k (less r m) r (ap (λ x. x.order) read)
@@ -153,12 +153,12 @@ module _ (rank : Ranking) (b : Book) (sound : SoundBook rank b) (rows : List Res
     pub reduced_still : tidy (take_off number m b) ≡ take_off number m b
     reduced_still =
         let c : Book = take_off number m b in
-        let own_full : All (λ l. holds l ≡ true) (side own c) = subst (λ (l : List Level). All (λ l. holds l ≡ true) l) (sym (own_side m)) (All-set (λ l. holds l ≡ true) (side own b) i (level_after m) level_full (sound_on rank b own sound).occupied) in
+        let own_full : AllByRecursion (λ l. holds l ≡ true) (side own c) = subst (λ (l : List Level). AllByRecursion (λ l. holds l ≡ true) l) (sym (own_side m)) (All-set (λ l. holds l ≡ true) (side own b) i (level_after m) level_full (sound_on rank b own sound).occupied) in
         let full = both_sides own c (λ l. holds l ≡ true) own_full (other_full m) in
-        let each : All (λ x. 0 < resting x.order.number c) rows_after = All-weaker (Untouched m) (λ x. 0 < resting x.order.number c) (λ x h. h.1) rows_after rows_untouched in
-        tidy_still c full.0 full.1 (subst (λ (es : List Order). All (λ e. 0 < resting e.number c) es) (reduced_orders ∙ sym is ∙ sym (off_orders number m b)) (map_all rows_after each))
+        let each : AllByRecursion (λ x. 0 < resting x.order.number c) rows_after = All-weaker (Untouched m) (λ x. 0 < resting x.order.number c) (λ x h. h.1) rows_after rows_untouched in
+        tidy_still c full.0 full.1 (subst (λ (es : List Order). AllByRecursion (λ e. 0 < resting e.number c) es) (reduced_orders ∙ sym is ∙ sym (off_orders number m b)) (map_all rows_after each))
       where
-        map_all : (xs : List Resting) → All (λ x. 0 < resting x.order.number (take_off number m b)) xs → All (λ e. 0 < resting e.number (take_off number m b)) (map (λ x. x.order) xs)
+        map_all : (xs : List Resting) → AllByRecursion (λ x. 0 < resting x.order.number (take_off number m b)) xs → AllByRecursion (λ e. 0 < resting e.number (take_off number m b)) (map (λ x. x.order) xs)
         map_all [] a = tt
         map_all (x ∷ xs) a = (a.0, map_all xs a.1)
 

@@ -1,6 +1,6 @@
 -- A book that tidying leaves as it is. Assumes nothing.
 use Rattle.std.proofs.Common.{◌≡◌, ◌<◌, true, ltb, List, filter, ap, ◌∙◌}
-use Rattle.std.specs.List.{AllByRecursion as All}
+use Rattle.std.specs.List.{AllByRecursion}
 use Rattle.std.proofs.lemmas.Bool.{lt-ltb}
 use Rattle.std.proofs.ByRecursion.{All-weaker}
 use Rattle.rules.specs.declared.orders.Order.{Order}
@@ -18,7 +18,7 @@ tidy_as b os bs ss o x y =
     ∙ ap (λ l. with_orders os (with_sides bs l b)) y
 
 -- every level has a part, and every order rests
-pub tidy_still : (b : Book) → All (λ l. holds l ≡ true) b.buys → All (λ l. holds l ≡ true) b.sells → All (λ e. 0 < resting e.number b) b.orders → tidy b ≡ b
+pub tidy_still : (b : Book) → AllByRecursion (λ l. holds l ≡ true) b.buys → AllByRecursion (λ l. holds l ≡ true) b.sells → AllByRecursion (λ e. 0 < resting e.number b) b.orders → tidy b ≡ b
 tidy_still b bs ss os =
     tidy_as b b.orders b.buys b.sells
     (kept_all (λ e. ltb 0 (resting e.number b)) b.orders (All-weaker (λ e. 0 < resting e.number b) (λ e. ltb 0 (resting e.number b) ≡ true) (λ e h. lt-ltb 0 (resting e.number b) h) b.orders os))

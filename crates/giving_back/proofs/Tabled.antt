@@ -1,6 +1,6 @@
 -- What the rows of the order table say of a sound book. Assumes nothing.
 use Rattle.std.proofs.Common.{◌≡◌, ℕ, ◌+◌, ◌<◌, ◌≤◌, false, not, ◌&&◌, leb, List, [], ◌∷◌, map, length, get_or, take, drop, sym, refl, ap, subst, arith}
-use Rattle.std.specs.List.{AllByRecursion as All}
+use Rattle.std.specs.List.{AllByRecursion}
 use Rattle.std.proofs.lemmas.Bool.{and_parts, not-false, leb-true}
 use Rattle.std.proofs.lemmas.List.{take_all}
 use Rattle.std.proofs.ByRecursion.{All-weaker, All-get_or, All-map}
@@ -22,8 +22,8 @@ pub record Known (b : Book) (rows : List Resting) (k : ℕ) (r : Resting) : Type
   pub unique : Unique b.orders r.order
   pub tells : r.quantity ≡ resting r.order.number b
   pub some : 0 < resting r.order.number b
-  pub before : All (λ x. (x.order.number ≡ r.order.number → ⊥)) (take k rows)
-  pub after : All (λ x. (x.order.number ≡ r.order.number → ⊥)) (drop (k + 1) rows)
+  pub before : AllByRecursion (λ x. (x.order.number ≡ r.order.number → ⊥)) (take k rows)
+  pub after : AllByRecursion (λ x. (x.order.number ≡ r.order.number → ⊥)) (drop (k + 1) rows)
 
 distinct_rows : (rows : List Resting) → Distinct (numbers (map (λ r. r.order) rows)) → Distinct (map (λ r. r.order.number) rows)
 distinct_rows rows = subst (λ (l : List ℕ). Distinct l) (both rows)
@@ -36,14 +36,14 @@ module _ (rank : Ranking) (b : Book) (rows : List Resting) (is : b.orders ≡ ma
   once : Distinct (numbers b.orders)
   once = rising_distinct b.last (numbers b.orders) s.rising
 
-  pub rows_rest : All (λ r. (0 < resting r.order.number b) × (resting r.order.number b ≤ r.order.quantity)) rows
-  rows_rest = all_unmap (λ e. (0 < resting e.number b) × (resting e.number b ≤ e.quantity)) (λ r. r.order) rows (subst (λ (es : List Order). All (λ e. (0 < resting e.number b) × (resting e.number b ≤ e.quantity)) es) is s.resting)
+  pub rows_rest : AllByRecursion (λ r. (0 < resting r.order.number b) × (resting r.order.number b ≤ r.order.quantity)) rows
+  rows_rest = all_unmap (λ e. (0 < resting e.number b) × (resting e.number b ≤ e.quantity)) (λ r. r.order) rows (subst (λ (es : List Order). AllByRecursion (λ e. (0 < resting e.number b) × (resting e.number b ≤ e.quantity)) es) is s.resting)
 
-  pub rows_admitted : All (λ r. Admitted b.lot r.order) rows
-  rows_admitted = all_unmap (Admitted b.lot) (λ r. r.order) rows (subst (λ (es : List Order). All (Admitted b.lot) es) is s.admitted)
+  pub rows_admitted : AllByRecursion (λ r. Admitted b.lot r.order) rows
+  rows_admitted = all_unmap (Admitted b.lot) (λ r. r.order) rows (subst (λ (es : List Order). AllByRecursion (Admitted b.lot) es) is s.admitted)
 
-  rows_unique : All (λ r. Unique b.orders r.order) rows
-  rows_unique = all_unmap (Unique b.orders) (λ r. r.order) rows (subst (λ (es : List Order). All (Unique b.orders) es) is (unique_each b.orders once))
+  rows_unique : AllByRecursion (λ r. Unique b.orders r.order) rows
+  rows_unique = all_unmap (Unique b.orders) (λ r. r.order) rows (subst (λ (es : List Order). AllByRecursion (Unique b.orders) es) is (unique_each b.orders once))
 
   pub known : Tallied rows b → (k : ℕ) (r : Resting) → k < length rows → r ≡ get_or rows k r → Known b rows k r
   known t k r lt read =
@@ -59,13 +59,13 @@ module _ (rank : Ranking) (b : Book) (rows : List Resting) (is : b.orders ≡ ma
       subst (λ x. Known b rows k x) (sym read) there
 
   -- a number that no row has does not rest
-  pub untabled_rests : (n k : ℕ) → length rows ≤ k → All (λ r. (r.order.number ≡ n → ⊥)) (take k rows) → resting n b ≡ 0
+  pub untabled_rests : (n k : ℕ) → length rows ≤ k → AllByRecursion (λ r. (r.order.number ≡ n → ⊥)) (take k rows) → resting n b ≡ 0
   untabled_rests n k over a =
-      let each : All (λ r. (r.order.number ≡ n → ⊥)) rows = subst (λ (l : List Resting). All (λ r. (r.order.number ≡ n → ⊥)) l) (take_all k rows over) a in
-      unlisted_rests rank b n s (subst (λ (es : List Order). All (λ e. (e.number ≡ n → ⊥)) es) (sym is) (All-map (λ e. (e.number ≡ n → ⊥)) (λ r. r.order) rows each))
+      let each : AllByRecursion (λ r. (r.order.number ≡ n → ⊥)) rows = subst (λ (l : List Resting). AllByRecursion (λ r. (r.order.number ≡ n → ⊥)) l) (take_all k rows over) a in
+      unlisted_rests rank b n s (subst (λ (es : List Order). AllByRecursion (λ e. (e.number ≡ n → ⊥)) es) (sym is) (All-map (λ e. (e.number ≡ n → ⊥)) (λ r. r.order) rows each))
 
   -- no row tells of more shares than an order can have
-  pub rows_small : Tallied rows b → All (λ r. r.quantity ≤ 500000) rows
+  pub rows_small : Tallied rows b → AllByRecursion (λ r. r.quantity ≤ 500000) rows
   rows_small t =
       All-weaker (λ r. (r.quantity ≡ resting r.order.number b) × (((0 < resting r.order.number b) × (resting r.order.number b ≤ r.order.quantity)) × Admitted b.lot r.order)) (λ r. r.quantity ≤ 500000)
       (λ r h. omega (arith, h.0, h.1.0.1, most r.order.quantity h.1.1.quantity)) rows

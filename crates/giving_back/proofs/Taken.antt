@@ -1,6 +1,6 @@
 -- Shares taken off an order that rests at one level of its side. Assumes nothing.
 use Rattle.std.proofs.Common.{◌≡◌, ℕ, zero, suc, ◌+◌, ◌-◌, ◌<◌, true, List, [], ◌∷◌, map, length, get_or, drop, set, filter, refl, ap, ◌∙◌, subst, arith}
-use Rattle.std.specs.List.{AllByRecursion as All}
+use Rattle.std.specs.List.{AllByRecursion}
 use Rattle.rules.specs.declared.orders.Side.{Side}
 use Rattle.rules.specs.declared.orders.Side.TheVariants.{Buy, Sell}
 use Rattle.rules.specs.Books.{Level, Book, side, other, pick, with_sides, with_side}
@@ -15,7 +15,7 @@ use Rattle.giving_back.proofs.Found.{none_on}
 -- ## Both sides
 
 -- an order that rests on one side loses shares there, and the other side stays
-pub off_on : (lot n m : ℕ) (s : Side) (b : Book) → All (Without lot n) (side (other s) b) → take_off n m b ≡ with_side s (take_off_side n m (side s b)) b
+pub off_on : (lot n m : ℕ) (s : Side) (b : Book) → AllByRecursion (Without lot n) (side (other s) b) → take_off n m b ≡ with_side s (take_off_side n m (side s b)) b
 unfolding take_off
 off_on lot n m Buy b a = ap (λ l. with_sides (take_off_side n m b.buys) l b) (off_others lot n (m - of_side n b.buys) b.sells a)
 off_on lot n m Sell b a =
@@ -39,13 +39,13 @@ side_alone lot n i [] x lt a = absurd (omega arith)
 side_alone lot n zero (l ∷ ls) x lt a = omega (arith, none_on lot n ls a.after)
 side_alone lot n (suc i) (l ∷ ls) x lt a =
     let on : suc i + 1 ≡ suc (i + 1) = omega arith in
-    omega (arith, a.before.0.none, side_alone lot n i ls x (omega arith) (record { before = a.before.1; after = subst (λ k. All (Without lot n) (drop k (l ∷ ls))) on a.after }))
+    omega (arith, a.before.0.none, side_alone lot n i ls x (omega arith) (record { before = a.before.1; after = subst (λ k. AllByRecursion (Without lot n) (drop k (l ∷ ls))) on a.after }))
 
-pub kept_sides : (s : Side) (b : Book) (ls : List Level) → filter holds (side s b) ≡ ls → All (λ l. holds l ≡ true) (side (other s) b) → (filter holds b.buys ≡ pick s ls b.buys) × (filter holds b.sells ≡ pick s b.sells ls)
+pub kept_sides : (s : Side) (b : Book) (ls : List Level) → filter holds (side s b) ≡ ls → AllByRecursion (λ l. holds l ≡ true) (side (other s) b) → (filter holds b.buys ≡ pick s ls b.buys) × (filter holds b.sells ≡ pick s b.sells ls)
 kept_sides Buy b ls e a = (e, kept_all holds b.sells a)
 kept_sides Sell b ls e a = (kept_all holds b.buys a, e)
 
-pub both_sides : (s : Side) (b : Book) (P : Level → Type 0) → All P (side s b) → All P (side (other s) b) → All P b.buys × All P b.sells
+pub both_sides : (s : Side) (b : Book) (P : Level → Type 0) → AllByRecursion P (side s b) → AllByRecursion P (side (other s) b) → AllByRecursion P b.buys × AllByRecursion P b.sells
 both_sides Buy b P x y = (x, y)
 both_sides Sell b P x y = (y, x)
 

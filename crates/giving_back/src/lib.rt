@@ -1,4 +1,6 @@
 //! What rests of an order is given back: a cancel, a reduction, a close.
+#![tactic(auto)]
+
 mod cancelling;
 mod closing;
 mod offs;

@@ -1,6 +1,6 @@
 //! Shares are taken off one order of a book.
 ghost use Rattle.std.specs.Prelude.{◌≡◌, ◌+◌, ◌<◌, ◌++◌, length, get_or, take, drop, if◌then◌else◌, slice_index_or};
-ghost use Rattle.rules.specs.Books.{Level, ranked_by, side as levels-on, with_side};
+ghost use Rattle.rules.specs.Books.{Level, ranked_by, side as levels_on, with_side};
 ghost use Rattle.rules.specs.Rules.{holds};
 ghost use Rattle.rules.specs.TakingOff.{take_off};
 ghost use Rattle.orders.specs.Rows.{rows_of};
@@ -52,8 +52,8 @@ pub(crate) fn take_off_order(state: &mut State, i: usize, order: Order, quantity
 
 /// The level at `i` of a side goes if it has no part.
 pub(crate) fn drop_level(state: &mut State, side: Side, i: usize)
-    requires { i < length (levels-on side (book_of state.old)) }
-    ensures book { (d : Level) → book_of state.new ≡ with_side side (if holds (slice_index_or (levels-on side (book_of state.old)) i d) then levels-on side (book_of state.old) else take i (levels-on side (book_of state.old)) ++ drop (i + 1) (levels-on side (book_of state.old))) (book_of state.old) }
+    requires { i < length (levels_on side (book_of state.old)) }
+    ensures book { (d : Level) → book_of state.new ≡ with_side side (if holds (slice_index_or (levels_on side (book_of state.old)) i d) then levels_on side (book_of state.old) else take i (levels_on side (book_of state.old)) ++ drop (i + 1) (levels_on side (book_of state.old))) (book_of state.old) }
     ensures rows { rows_of state.new.orders ≡ rows_of state.old.orders }
 {
     match side {

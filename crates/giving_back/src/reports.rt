@@ -1,6 +1,6 @@
 //! The rows of orders that are given back.
 ghost use Rattle.std.specs.Prelude.{◌≡◌, ◌<◌, ◌≤◌, [], ◌∷◌, length};
-ghost use Rattle.std.specs.List.{AllByRecursion as All};
+ghost use Rattle.std.specs.List.{AllByRecursion};
 ghost use Rattle.rules.specs.Lists.{sum_of};
 ghost use Rattle.rules.specs.Rules.{row_given_back};
 ghost use Rattle.rules.specs.declared.answers.Answer.TheVariants.{Accepted, Refused};
@@ -41,7 +41,7 @@ pub(crate) fn give_back(order: u32, quantity: u32, report: &mut [Row]) -> Reply
 
 /// Writes a row for each order of the table, with all that rests of it. How many shares these are.
 pub(crate) fn give_all_back(orders: &OrderTable, report: &mut [Row]) -> u32
-    requires small { All (λ r. r.quantity ≤ 500000) (rows_of orders.now) }
+    requires small { AllByRecursion (λ r. r.quantity ≤ 500000) (rows_of orders.now) }
     requires room { 128 ≤ length report.old }
     ensures rows { report.new ≡ written report.old 0 (backs (rows_of orders.now)) }
     ensures total { result ≡ sum_of row_given_back (backs (rows_of orders.now)) }

@@ -1,10 +1,10 @@
 //! Parts as claims: a part claims its quantity for its participant.
 ghost use Rattle.std.specs.Prelude.{◌≡◌, ◌≤◌, length};
-ghost use Rattle.std.specs.List.{AllByRecursion as All};
+ghost use Rattle.std.specs.List.{AllByRecursion};
 ghost use Rattle.allocation.specs.Dealings.{Seated, interest};
 ghost use Rattle.allocation.specs.Memory.{wheel_of};
 ghost use Rattle.rules.specs.Changes.{lowered, settle};
-ghost use Rattle.rules.specs.Quantities.{claims as claims-of};
+ghost use Rattle.rules.specs.Quantities.{claims as claims_of};
 ghost use Rattle.levels.specs.Limits.{WithinLimits};
 
 use allocation::{Dealing, Wheel};
@@ -12,7 +12,7 @@ use rules::Part;
 
 /// Participants without interest left lose their seats, once the parts have lost their amounts.
 pub fn settle_wheel(wheel: &mut Wheel, parts: &[Part], amounts: &[u32])
-    requires limits { All WithinLimits parts.now }
+    requires limits { AllByRecursion WithinLimits parts.now }
     requires short { length parts.now ≤ 384 }
     ensures { wheel_of wheel.new ≡ settle (wheel_of wheel.old) (lowered parts.now amounts.now) }
 {
@@ -28,12 +28,12 @@ pub fn deal_parts<D: Dealing>(
     parts: &[Part],
     shares: &mut [u32],
 )
-    requires limits { All WithinLimits parts.now }
+    requires limits { AllByRecursion WithinLimits parts.now }
     requires short { length parts.now ≤ 384 }
     requires one_each { length shares.old ≡ length parts.now }
-    requires seated { Seated lot (wheel_of wheel.old) (λ p. interest p (claims-of parts.now)) }
-    ensures shares { shares.new ≡ (D.Dealing.meaning quantity (wheel_of wheel.old) lot (claims-of parts.now)).shares }
-    ensures wheel { wheel_of wheel.new ≡ (D.Dealing.meaning quantity (wheel_of wheel.old) lot (claims-of parts.now)).wheel }
+    requires seated { Seated lot (wheel_of wheel.old) (λ p. interest p (claims_of parts.now)) }
+    ensures shares { shares.new ≡ (D.Dealing.meaning quantity (wheel_of wheel.old) lot (claims_of parts.now)).shares }
+    ensures wheel { wheel_of wheel.new ≡ (D.Dealing.meaning quantity (wheel_of wheel.old) lot (claims_of parts.now)).wheel }
 {
     dealing.deal(quantity, wheel, lot, parts, shares);
 }

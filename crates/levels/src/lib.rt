@@ -1,4 +1,6 @@
 //! The price levels of one side of a book: level heads, best price first, over one dense run of parts.
+#![tactic(auto)]
+
 mod claiming;
 mod heads;
 mod ranked;

@@ -1,6 +1,6 @@
 -- A sound book while an order arrives and trades. Assumes nothing.
 use Rattle.std.proofs.Common.{◌≡◌, ℕ, ◌+◌, ◌-◌, ◌<◌, ◌≤◌, true, false, List, [], ◌∷◌, ◌++◌, length, take, drop, sym, refl, ap, ◌∙◌, subst, arith}
-use Rattle.std.specs.List.{AllByRecursion as All}
+use Rattle.std.specs.List.{AllByRecursion}
 use Rattle.std.proofs.lemmas.List.{length-map, take-append-le, take_all, length-append}
 use Rattle.std.proofs.ByRecursion.{All-weaker, all_has_itself}
 use Rattle.allocation.specs.Rankings.{TotalOrder}
@@ -52,7 +52,7 @@ pub none_left : {X : Type 0} (xs : List X) → length xs ≤ 0 → xs ≡ []
 none_left [] h = refl
 none_left (x ∷ xs) h = absurd (omega arith)
 
-names_named : (b : Book) (e : Order) (ns : List ℕ) → ((n : ℕ) → 0 < resting n b → has n ns ≡ true) → (xs : List Row) → All (Names b (Enter e)) xs → All (Named ns) xs
+names_named : (b : Book) (e : Order) (ns : List ℕ) → ((n : ℕ) → 0 < resting n b → has n ns ≡ true) → (xs : List Row) → AllByRecursion (Names b (Enter e)) xs → AllByRecursion (Named ns) xs
 names_named b e ns covered [] a = tt
 names_named b e ns covered (Trade s r m v q ∷ xs) a = (covered r a.0.1, names_named b e ns covered xs a.1)
 names_named b e ns covered (GivenBack n q ∷ xs) a = (tt, names_named b e ns covered xs a.1)
@@ -85,7 +85,7 @@ module _ (rank : Ranking) (O : TotalOrder rank.good) (deal : Deal) (D : Lawful d
   unfolding trade
   trade_rest = refl
 
-  pub opposite_ready : All (SoundLevel b.lot) (side (other e.side) b)
+  pub opposite_ready : AllByRecursion (SoundLevel b.lot) (side (other e.side) b)
   opposite_ready = side_good b.lot (other e.side) b (sound_fit rank b s).sides
 
   pub opposite_sorted : BestFirst rank (other e.side) (prices (side (other e.side) b))
@@ -101,10 +101,10 @@ module _ (rank : Ranking) (O : TotalOrder rank.good) (deal : Deal) (D : Lawful d
       let T : AfterTrade b.lot e b (trade rank deal e (arrived e b)) = after_trading rank deal D b.lot e b (sound_fit rank b s) in
       omega (arith, (T.even n).rest, ap (resting n) trade_rest, ap (sum_of (as_resting n)) trade_rows)
 
-  pub rows_named : All (Named (numbers b.orders)) meeting.rows
-  rows_named = names_named b e (numbers b.orders) (sound_fit rank b s).covered meeting.rows (subst (All (Names b (Enter e))) trade_rows (met_rows rank O deal D b e s).names)
+  pub rows_named : AllByRecursion (Named (numbers b.orders)) meeting.rows
+  rows_named = names_named b e (numbers b.orders) (sound_fit rank b s).covered meeting.rows (subst (AllByRecursion (Names b (Enter e))) trade_rows (met_rows rank O deal D b e s).names)
 
-  pub rows_enough : (rs : List Resting) → Tallied rs b → All (λ r. taken_from r.order.number meeting.rows ≤ r.quantity) rs
+  pub rows_enough : (rs : List Resting) → Tallied rs b → AllByRecursion (λ r. taken_from r.order.number meeting.rows ≤ r.quantity) rs
   rows_enough rs t = All-weaker (λ r. r.quantity ≡ resting r.order.number b) (λ r. taken_from r.order.number meeting.rows ≤ r.quantity) (λ r h. omega (arith, h, split r.order.number)) rs t
 
   pub still_tallied : (rs now : List Resting) (x : Book) → now ≡ deducted meeting.rows rs → x ≡ replenish rank after → Tallied rs b → Tallied now x
@@ -164,14 +164,14 @@ module _ (rank : Ranking) (O : TotalOrder rank.good) (deal : Deal) (D : Lawful d
       go Sell h Buy = refl
       go Sell h Sell = h
 
-  low_after : (n : ℕ) (t : Side) → meeting.rows ≡ [] → All (λ l. runs_low b.lot n l ≡ false) b.buys × All (λ l. runs_low b.lot n l ≡ false) b.sells → All (λ l. runs_low b.lot n l ≡ false) (side t after)
+  low_after : (n : ℕ) (t : Side) → meeting.rows ≡ [] → AllByRecursion (λ l. runs_low b.lot n l ≡ false) b.buys × AllByRecursion (λ l. runs_low b.lot n l ≡ false) b.sells → AllByRecursion (λ l. runs_low b.lot n l ≡ false) (side t after)
   low_after n t none low = go (other e.side) (quiet_low deal b.lot e.number b.lot n b.steps (in_reach rank (arrived e b) e) e.quantity (side (other e.side) b) opposite_ready none (pick_low (other e.side))) t
     where
-      pick_low : (u : Side) → All (λ l. runs_low b.lot n l ≡ false) (side u b)
+      pick_low : (u : Side) → AllByRecursion (λ l. runs_low b.lot n l ≡ false) (side u b)
       pick_low Buy = low.0
       pick_low Sell = low.1
 
-      go : (u : Side) → All (λ l. runs_low b.lot n l ≡ false) meeting.rest → (t : Side) → All (λ l. runs_low b.lot n l ≡ false) (side t (with_side u meeting.rest (arrived e b)))
+      go : (u : Side) → AllByRecursion (λ l. runs_low b.lot n l ≡ false) meeting.rest → (t : Side) → AllByRecursion (λ l. runs_low b.lot n l ≡ false) (side t (with_side u meeting.rest (arrived e b)))
       go Buy h Buy = h
       go Buy h Sell = low.1
       go Sell h Buy = low.0
@@ -183,7 +183,7 @@ module _ (rank : Ranking) (O : TotalOrder rank.good) (deal : Deal) (D : Lawful d
       let once = rising_distinct b.last (numbers b.orders) s.rising in
       sym (all_unchanged rank after b.orders
       (All-weaker
-      (λ o. Unique b.orders o × (((0 < resting o.number b) × (resting o.number b ≤ o.quantity)) × (is_reserve o.kind ≡ true → All (λ l. runs_low b.lot o.number l ≡ false) b.buys × All (λ l. runs_low b.lot o.number l ≡ false) b.sells)))
+      (λ o. Unique b.orders o × (((0 < resting o.number b) × (resting o.number b ≤ o.quantity)) × (is_reserve o.kind ≡ true → AllByRecursion (λ l. runs_low b.lot o.number l ≡ false) b.buys × AllByRecursion (λ l. runs_low b.lot o.number l ≡ false) b.sells)))
       (λ o. replenish_order rank after o ≡ after)
       (λ o h. unchanged rank after o (sorted_side rank O o.side after (midway_met rank O deal D b e s s.lot).ranked)
       (ap (has o.price) (prices_after o.side) ∙ price_here b.orders b o h.0 s.buys.orderly s.sells.orderly h.1.0.0)

@@ -1,7 +1,7 @@
 -- Where nothing traded no reserve is replenished. Assumes nothing.
 use Rattle.std.proofs.Common.{◌≡◌, ℕ, ◌+◌, ◌-◌, ◌<◌, min, Bool, true, false, cond, not, ◌&&◌, ◌||◌, eqb, ltb, List, [], ◌∷◌, ◌++◌, length, fold, sym, refl, ap, ◌∙◌, subst, arith}
 use mathlib.Core.Bool.{false≢true}
-use Rattle.std.specs.List.{AllByRecursion as All}
+use Rattle.std.specs.List.{AllByRecursion}
 use Rattle.std.proofs.lemmas.Bool.{eqb-true, lt-leb}
 use Rattle.allocation.specs.Dealings.{Deal, Dealt, sum}
 use Rattle.rules.specs.declared.orders.Side.{Side}
@@ -29,7 +29,7 @@ append_none : {X : Type 0} (xs ys : List X) → xs ++ ys ≡ [] → (xs ≡ []) 
 append_none [] ys h = (refl, h)
 append_none (x ∷ xs) ys h = absurd (omega (arith, ap length h))
 
-quiet_parts : (s : Step) (a v : ℕ) (ps : List Part) (xs : List ℕ) → All (λ p. 0 < p.quantity) ps → rows_of s a v ps xs ≡ [] → lowered ps xs ≡ ps
+quiet_parts : (s : Step) (a v : ℕ) (ps : List Part) (xs : List ℕ) → AllByRecursion (λ p. 0 < p.quantity) ps → rows_of s a v ps xs ≡ [] → lowered ps xs ≡ ps
 quiet_parts s a v [] xs pos h = refl
 quiet_parts s a v (p ∷ ps) [] pos h = refl
 quiet_parts s a v (p ∷ ps) (x ∷ xs) pos h = go (eqb x 0) refl (quiet_parts s a v ps xs pos.1) h
@@ -51,9 +51,9 @@ record Alike (l m : Level) : Type 0 where
   hidden : m.hidden.parts ≡ l.hidden.parts
 
 abbrev Full : Level → Type 0
-Full l = All (λ p. 0 < p.quantity) l.shown.parts × All (λ p. 0 < p.quantity) l.hidden.parts
+Full l = AllByRecursion (λ p. 0 < p.quantity) l.shown.parts × AllByRecursion (λ p. 0 < p.quantity) l.hidden.parts
 
-full_queue : (s : Step) (l : Level) → Full l → All (λ p. 0 < p.quantity) (queue_of s l).parts
+full_queue : (s : Step) (l : Level) → Full l → AllByRecursion (λ p. 0 < p.quantity) (queue_of s l).parts
 full_queue Step.Setter l f = f.0
 full_queue Step.Displayed l f = f.0
 full_queue Step.Hidden l f = f.1
@@ -64,7 +64,7 @@ queue_alike Step.Displayed k l e = record { price = refl; shown = e; hidden = re
 queue_alike Step.Hidden k l e = record { price = refl; shown = refl; hidden = e }
 
 full_alike : (l m : Level) → Alike l m → Full l → Full m
-full_alike l m a f = (subst (All (λ p. 0 < p.quantity)) (sym a.shown) f.0, subst (All (λ p. 0 < p.quantity)) (sym a.hidden) f.1)
+full_alike l m a f = (subst (AllByRecursion (λ p. 0 < p.quantity)) (sym a.shown) f.0, subst (AllByRecursion (λ p. 0 < p.quantity)) (sym a.hidden) f.1)
 
 module _ (deal : Deal) (lot arriving : ℕ) where
   quiet_price : (ss : List Step) (q : ℕ) (l : Level) → Full l → (trade_price deal lot arriving ss q l).rows ≡ [] → Alike l (trade_price deal lot arriving ss q l).rest
@@ -84,7 +84,7 @@ module _ (deal : Deal) (lot arriving : ℕ) where
   quiet_reached ss true q l f h = quiet_price ss q l f h
   quiet_reached ss false q l f h = record { price = refl; shown = refl; hidden = refl }
 
-  pub quiet_low : (k n : ℕ) (ss : List Step) (reaches : ℕ → Bool) (q : ℕ) (ls : List Level) → All (SoundLevel lot) ls → (trade_side deal lot arriving ss reaches q ls).rows ≡ [] → All (λ l. runs_low k n l ≡ false) ls → All (λ l. runs_low k n l ≡ false) (trade_side deal lot arriving ss reaches q ls).rest
+  pub quiet_low : (k n : ℕ) (ss : List Step) (reaches : ℕ → Bool) (q : ℕ) (ls : List Level) → AllByRecursion (SoundLevel lot) ls → (trade_side deal lot arriving ss reaches q ls).rows ≡ [] → AllByRecursion (λ l. runs_low k n l ≡ false) ls → AllByRecursion (λ l. runs_low k n l ≡ false) (trade_side deal lot arriving ss reaches q ls).rest
   unfolding trade_side
   quiet_low k n ss reaches q [] g h low = tt
   quiet_low k n ss reaches q (l ∷ ls) g h low =
@@ -97,7 +97,7 @@ module _ (deal : Deal) (lot arriving : ℕ) where
 
 -- ## A change that changes nothing
 
-has_all : (P : ℕ → Type 0) (v : ℕ) (vs : List ℕ) → All P vs → has v vs ≡ true → P v
+has_all : (P : ℕ → Type 0) (v : ℕ) (vs : List ℕ) → AllByRecursion P vs → has v vs ≡ true → P v
 has_all P v [] a h = absurd (false≢true h)
 has_all P v (w ∷ vs) a h = go (eqb w v) refl (has_all P v vs a.1) h
   where
@@ -106,7 +106,7 @@ has_all P v (w ∷ vs) a h = go (eqb w v) refl (has_all P v vs a.1) h
     go false e ih h = ih h
 
 module _ (rank : Ranking) (s : Side) where
-  pub on_price_same : (v : ℕ) (f : Level → Level) (ls : List Level) → BestFirst rank s (prices ls) → has v (prices ls) ≡ true → All (λ l. f l ≡ l) ls → on_price rank s v f ls ≡ ls
+  pub on_price_same : (v : ℕ) (f : Level → Level) (ls : List Level) → BestFirst rank s (prices ls) → has v (prices ls) ≡ true → AllByRecursion (λ l. f l ≡ l) ls → on_price rank s v f ls ≡ ls
   unfolding on_price
   on_price_same v f [] o h a = absurd (false≢true h)
   on_price_same v f (l ∷ ls) o h a = go (eqb l.price v) (good rank s v l.price) refl (λ k. on_price_same v f ls o.1 k a.1) h
@@ -119,7 +119,7 @@ module _ (rank : Ranking) (s : Side) where
           no_way k = false≢true (sym (ap not e) ∙ k)
       go false false e ih h = ap (λ xs. l ∷ xs) (ih h)
 
-each_same : (f : Level → Level) (t : Level → Bool) → ((l : Level) → t l ≡ false → f l ≡ l) → (ls : List Level) → All (λ l. t l ≡ false) ls → All (λ l. f l ≡ l) ls
+each_same : (f : Level → Level) (t : Level → Bool) → ((l : Level) → t l ≡ false → f l ≡ l) → (ls : List Level) → AllByRecursion (λ l. t l ≡ false) ls → AllByRecursion (λ l. f l ≡ l) ls
 each_same f t step [] a = tt
 each_same f t step (l ∷ ls) a = (step l a.0, each_same f t step ls a.1)
 
@@ -129,7 +129,7 @@ same_side_as Sell b = refl
 
 -- an order that does not run low stays as it is
 pub unchanged : (rank : Ranking) (b : Book) (e : Order) → BestFirst rank e.side (prices (side e.side b)) → has e.price (prices (side e.side b)) ≡ true
-    → (is_reserve e.kind ≡ true → All (λ l. runs_low b.lot e.number l ≡ false) (side e.side b)) → replenish_order rank b e ≡ b
+    → (is_reserve e.kind ≡ true → AllByRecursion (λ l. runs_low b.lot e.number l ≡ false) (side e.side b)) → replenish_order rank b e ≡ b
 unchanged rank b e o h low = go (is_reserve e.kind) refl
   where
     ls : List Level
@@ -147,6 +147,6 @@ unchanged rank b e o h low = go (is_reserve e.kind) refl
         renewed_is rank b e r ∙ ap (λ xs. with_side e.side xs b) (ap (on_price rank e.side e.price (show_anew lot e mark)) one ∙ two) ∙ same_side_as e.side b
     go false r = sym (not_renewed rank b e r)
 
-pub all_unchanged : (rank : Ranking) (b : Book) (es : List Order) → All (λ e. replenish_order rank b e ≡ b) es → fold (replenish_order rank) b es ≡ b
+pub all_unchanged : (rank : Ranking) (b : Book) (es : List Order) → AllByRecursion (λ e. replenish_order rank b e ≡ b) es → fold (replenish_order rank) b es ≡ b
 all_unchanged rank b [] a = refl
 all_unchanged rank b (e ∷ es) a = ap (λ x. fold (replenish_order rank) x es) a.0 ∙ all_unchanged rank b es a.1

@@ -1,6 +1,6 @@
 -- Reserve orders of a book are replenished one after the other. Assumes nothing.
 use Rattle.std.proofs.Common.{◌≡◌, ℕ, suc, ◌+◌, ◌%◌, ◌<◌, ◌≤◌, min, Bool, true, false, not, ◌&&◌, eqb, leb, List, [], ◌∷◌, map, length, get_or, drop, fold, sym, refl, ap, ◌∙◌, subst, arith}
-use Rattle.std.specs.List.{ContainsAt as Has, AllByRecursion as All}
+use Rattle.std.specs.List.{ContainsAt as Has, AllByRecursion}
 use Rattle.std.proofs.lemmas.List.{at_drop_more, at_drop_all, get_or-map}
 use Rattle.std.proofs.lemmas.Bool.{and_parts, leb-true, not-false}
 use Rattle.std.proofs.ByRecursion.{All-weaker, all-has, has_get_or}
@@ -83,11 +83,11 @@ module _ (rank : Ranking) (O : TotalOrder rank.good) (lot : ℕ) (es : List Orde
   sorted_on Buy most b h = h.sorted_buys
   sorted_on Sell most b h = h.sorted_sells
 
-  sound_on : (s : Side) (most : ℕ) (b : Book) → Underway rank lot es most b → All (SoundLevel lot) (side s b)
+  sound_on : (s : Side) (most : ℕ) (b : Book) → Underway rank lot es most b → AllByRecursion (SoundLevel lot) (side s b)
   sound_on Buy most b h = h.sound_buys
   sound_on Sell most b h = h.sound_sells
 
-  orderly_on : (s : Side) (most : ℕ) (b : Book) → Underway rank lot es most b → All (Orderly es s) (side s b)
+  orderly_on : (s : Side) (most : ℕ) (b : Book) → Underway rank lot es most b → AllByRecursion (Orderly es s) (side s b)
   orderly_on Buy most b h = h.orderly_buys
   orderly_on Sell most b h = h.orderly_sells
 
@@ -182,7 +182,7 @@ module _ (rank : Ranking) (O : TotalOrder rank.good) (lot : ℕ) (es : List Orde
       }
 
   -- all of some orders are looked at
-  pub all_underway : (b : Book) (xs : List Order) (most : ℕ) → All (Has es) xs → Underway rank lot es most b → Underway rank lot es (most + length xs) (fold (replenish_order rank) b xs)
+  pub all_underway : (b : Book) (xs : List Order) (most : ℕ) → AllByRecursion (Has es) xs → Underway rank lot es most b → Underway rank lot es (most + length xs) (fold (replenish_order rank) b xs)
   all_underway b [] most a h = underway_within b most (most + 0) (omega arith) h
   all_underway b (x ∷ xs) most a h =
       let c : Book = fold (replenish_order rank) (replenish_order rank b x) xs in

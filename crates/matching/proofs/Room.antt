@@ -1,7 +1,7 @@
 -- There is room for the new part of a reserve order that runs low. Assumes nothing.
 use Rattle.std.proofs.Common.{◌≡◌, ℕ, ◌+◌, ◌<◌, ◌≤◌, Bool, true, false, cond, ◌||◌, eqb, List, [], ◌∷◌, map, length, sym, refl, ap, ◌∙◌, subst, arith}
 use mathlib.Core.Bool.{false≢true}
-use Rattle.std.specs.List.{AllByRecursion as All}
+use Rattle.std.specs.List.{AllByRecursion}
 use Rattle.std.proofs.lemmas.List.{length_push}
 use Rattle.std.proofs.lemmas.Bool.{eqb-true, and_parts}
 use Rattle.allocation.specs.Rankings.{TotalOrder}
@@ -79,11 +79,11 @@ module _ (rank : Ranking) (O : TotalOrder rank.good) (lot : ℕ) (pos : 0 < lot)
           )
       go false low = h.0
 
-  all_orderly : (ls : List Level) → All JoinedOne ls → All (Orderly es e.side) (map (one_more lot e.number e.participant) ls)
+  all_orderly : (ls : List Level) → AllByRecursion JoinedOne ls → AllByRecursion (Orderly es e.side) (map (one_more lot e.number e.participant) ls)
   all_orderly [] a = tt
   all_orderly (l ∷ ls) a = (more_orderly l a.0, all_orderly ls a.1)
 
-  pub room_to_show : Distinct (numbers es) → length es ≤ 128 → (ls : List Level) → BestFirst rank e.side (prices ls) → All (SoundLevel lot) ls → All (Orderly es e.side) ls → RoomToShow rank lot e ls
+  pub room_to_show : Distinct (numbers es) → length es ≤ 128 → (ls : List Level) → BestFirst rank e.side (prices ls) → AllByRecursion (SoundLevel lot) ls → AllByRecursion (Orderly es e.side) ls → RoomToShow rank lot e ls
   room_to_show once few ls sorted sound orderly low =
       let js : List Level = joined rank lot e ls in
       let ms : List Level = map (one_more lot e.number e.participant) js in

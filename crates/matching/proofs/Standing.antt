@@ -1,7 +1,7 @@
 -- Where an order's parts stand: on its side, at its price. Assumes nothing.
 use Rattle.std.proofs.Common.{◌≡◌, ◌<◌, Bool, true, false, ◌&&◌, ◌||◌, eqb, List, [], ◌∷◌, sym, refl, ◌∙◌, arith}
 use mathlib.Core.Bool.{false≢true}
-use Rattle.std.specs.List.{AllByRecursion as All}
+use Rattle.std.specs.List.{AllByRecursion}
 use Rattle.std.proofs.lemmas.Bool.{eqb-true, eq-eqb, and_parts}
 use Rattle.rules.specs.declared.orders.Side.{Side}
 use Rattle.rules.specs.declared.orders.Side.TheVariants.{Buy, Sell}
@@ -25,7 +25,7 @@ level_here es s e l u o some = go (same_side e.side s && eqb e.price l.price) re
         false≢true (sym h ∙ (and_parts (eqb p.participant e.participant) _ (and_parts (eqb e.number p.order) _ b).1).1)) in
         absurd (omega (arith, none_of es s l.price e.number l.shown.parts o.0.listed never, none_of es s l.price e.number l.hidden.parts o.1.listed never))
 
-side_here : (es : List Order) (s : Side) (e : Order) (ls : List Level) → Unique es e → All (Orderly es s) ls → 0 < of_side e.number ls → (same_side e.side s ≡ true) × (has e.price (prices ls) ≡ true)
+side_here : (es : List Order) (s : Side) (e : Order) (ls : List Level) → Unique es e → AllByRecursion (Orderly es s) ls → 0 < of_side e.number ls → (same_side e.side s ≡ true) × (has e.price (prices ls) ≡ true)
 side_here es s e [] u o some = absurd (omega arith)
 side_here es s e (l ∷ ls) u o some =
     some_of_two (of_level e.number l) (of_side e.number ls) ((same_side e.side s ≡ true) × (has e.price (prices (l ∷ ls)) ≡ true)) some
@@ -36,7 +36,7 @@ side_here es s e (l ∷ ls) u o some =
     or_yes true = refl
     or_yes false = refl
 
-pub price_here : (es : List Order) (b : Book) (e : Order) → Unique es e → All (Orderly es Buy) b.buys → All (Orderly es Sell) b.sells → 0 < resting e.number b → has e.price (prices (side e.side b)) ≡ true
+pub price_here : (es : List Order) (b : Book) (e : Order) → Unique es e → AllByRecursion (Orderly es Buy) b.buys → AllByRecursion (Orderly es Sell) b.sells → 0 < resting e.number b → has e.price (prices (side e.side b)) ≡ true
 price_here es b e u ob os some =
     some_of_two (of_side e.number b.buys) (of_side e.number b.sells) (has e.price (prices (side e.side b)) ≡ true) some
     (λ here. (let h = side_here es Buy e b.buys u ob here in go e.side Buy h.0 h.1))

@@ -1,6 +1,6 @@
 -- A book while an order arrives. Assumes nothing.
 use Rattle.std.specs.Prelude.{◌≡◌, ℕ, ◌<◌, ◌≤◌, List, length}
-use Rattle.std.specs.List.{AllByRecursion as All}
+use Rattle.std.specs.List.{AllByRecursion}
 use Rattle.rules.specs.declared.orders.Side.TheVariants.{Buy, Sell}
 use Rattle.rules.specs.declared.orders.Order.{Order}
 use Rattle.rules.specs.Lists.{Distinct}
@@ -17,15 +17,15 @@ pub record Underway (rank : Ranking) (lot : ℕ) (es : List Order) (most : ℕ) 
   pub orders : b.orders ≡ es
   pub positive : 0 < lot
   pub table : GoodTable b.steps
-  pub sound_buys : All (SoundLevel lot) b.buys
-  pub sound_sells : All (SoundLevel lot) b.sells
+  pub sound_buys : AllByRecursion (SoundLevel lot) b.buys
+  pub sound_sells : AllByRecursion (SoundLevel lot) b.sells
   pub sorted_buys : BestFirst rank Buy (prices b.buys)
   pub sorted_sells : BestFirst rank Sell (prices b.sells)
-  pub orderly_buys : All (Orderly es Buy) b.buys
-  pub orderly_sells : All (Orderly es Sell) b.sells
+  pub orderly_buys : AllByRecursion (Orderly es Buy) b.buys
+  pub orderly_sells : AllByRecursion (Orderly es Sell) b.sells
   pub few_buys : length b.buys ≤ most
   pub few_sells : length b.sells ≤ most
   pub once : Distinct (numbers es)
   pub few : length es ≤ most_orders
-  pub admitted : All (Admitted lot) es
-  pub resting : All (λ e. resting e.number b ≤ e.quantity) es
+  pub admitted : AllByRecursion (Admitted lot) es
+  pub resting : AllByRecursion (λ e. resting e.number b ≤ e.quantity) es

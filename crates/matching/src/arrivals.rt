@@ -1,8 +1,8 @@
 //! An order arrives and trades.
 ghost use Rattle.std.specs.Prelude.{◌≡◌, ◌≤◌, length};
-ghost use Rattle.std.specs.List.{AllByRecursion as All};
+ghost use Rattle.std.specs.List.{AllByRecursion};
 ghost use Rattle.rules.specs.Books.{ranked_by};
-ghost use Rattle.rules.specs.Reserve.{replenish as replenish-book};
+ghost use Rattle.rules.specs.Reserve.{replenish as replenish_book};
 ghost use Rattle.rules.specs.Invariants.{numbers};
 ghost use Rattle.rules.specs.Entering.{arrived, trade};
 ghost use Rattle.trading.specs.Written.{written};
@@ -21,9 +21,9 @@ use trading::Progress;
 /// What orders traded is taken off their rows of the table, and then reserve is replenished.
 fn settle_trades<K: Ranking>(state: &mut State, rows: &[Row])
     requires book { Underway (ranked_by K.Ranking.initial K.Ranking.good) (book_of state.old).lot (book_of state.old).orders 128 (book_of state.old) }
-    requires named { All (Named (numbers (orders_of state.old.orders))) rows.now }
-    requires enough { All (λ r. taken_from r.order.number rows.now ≤ r.quantity) (rows_of state.old.orders) }
-    ensures book { book_of state.new ≡ replenish-book (ranked_by K.Ranking.initial K.Ranking.good) (book_of state.old) }
+    requires named { AllByRecursion (Named (numbers (orders_of state.old.orders))) rows.now }
+    requires enough { AllByRecursion (λ r. taken_from r.order.number rows.now ≤ r.quantity) (rows_of state.old.orders) }
+    ensures book { book_of state.new ≡ replenish_book (ranked_by K.Ranking.initial K.Ranking.good) (book_of state.old) }
     ensures table { rows_of state.new.orders ≡ deducted rows.now (rows_of state.old.orders) }
 {
     state.orders.deduct(rows);

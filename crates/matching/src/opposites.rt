@@ -1,6 +1,6 @@
 //! The side that an arriving order trades with.
 ghost use Rattle.std.specs.Prelude.{◌≡◌, ◌≤◌, length};
-ghost use Rattle.std.specs.List.{AllByRecursion as All};
+ghost use Rattle.std.specs.List.{AllByRecursion};
 ghost use Rattle.rules.specs.Books.{Ranking as Ranked, ranked_by, other, side, with_side};
 ghost use Rattle.rules.specs.Trading.{has_limit, in_reach};
 ghost use Rattle.rules.specs.Invariants.{SoundLevel, BestFirst, prices};
@@ -58,7 +58,7 @@ pub(crate) fn trade_opposite<K: Ranking, D: Dealing>(
     order: Order,
     report: &mut [Row],
 ) -> Progress
-    requires ready { All (SoundLevel state.old.lot) (side (other order.side) (book_of state.old)) }
+    requires ready { AllByRecursion (SoundLevel state.old.lot) (side (other order.side) (book_of state.old)) }
     requires sorted { BestFirst (ranked_by K.Ranking.initial K.Ranking.good) (other order.side) (prices (side (other order.side) (book_of state.old))) }
     requires rows { length (met (ranked_by K.Ranking.initial K.Ranking.good) D.Dealing.meaning order (book_of state.old)).rows ≤ length report.old }
     ensures book { book_of state.new ≡ with_side (other order.side) (met (ranked_by K.Ranking.initial K.Ranking.good) D.Dealing.meaning order (book_of state.old)).rest (book_of state.old) }

@@ -2,7 +2,7 @@
 ghost use Rattle.std.specs.Prelude.{◌≡◌, true};
 ghost use Rattle.std.specs.List.{ContainsAt as Has};
 ghost use Rattle.rules.specs.Books.{ranked_by};
-ghost use Rattle.rules.specs.Reserve.{is_reserve, replenish_order, replenish as replenish-book};
+ghost use Rattle.rules.specs.Reserve.{is_reserve, replenish_order, replenish as replenish_book};
 ghost use Rattle.memory.specs.States.{book_of};
 ghost use Rattle.matching.specs.Underway.{Underway};
 
@@ -65,7 +65,7 @@ fn renew_order<K: Ranking>(state: &mut State, order: Order)
 /// Every order that rests is looked at, lower number first, and reserve that runs low is replenished.
 pub(crate) fn replenish_all<K: Ranking>(state: &mut State)
     requires { Underway (ranked_by K.Ranking.initial K.Ranking.good) (book_of state.old).lot (book_of state.old).orders 128 (book_of state.old) }
-    ensures book { book_of state.new ≡ replenish-book (ranked_by K.Ranking.initial K.Ranking.good) (book_of state.old) }
+    ensures book { book_of state.new ≡ replenish_book (ranked_by K.Ranking.initial K.Ranking.good) (book_of state.old) }
     ensures orders { state.new.orders ≡ state.old.orders }
 {
     for i in 0..state.orders.len() {

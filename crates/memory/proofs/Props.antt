@@ -4,7 +4,7 @@ use mathlib.Core.Bool.{Bool-set}
 use mathlib.Core.Logic.{∥∥₁_elim}
 use native.Mathlib.Bridge.{le_prop}
 use native.Mathlib.Nat.{ℕ_set}
-use Rattle.std.specs.List.{AllByRecursion as All}
+use Rattle.std.specs.List.{AllByRecursion}
 use Rattle.allocation.specs.Dealings.{Seated}
 use Rattle.allocation.specs.Wheels.{Wheel}
 use Rattle.rules.specs.declared.orders.Side.{Side}
@@ -17,7 +17,7 @@ use Rattle.rules.specs.Invariants.{SoundQueue, SoundLevel, OrderlyParts, Orderly
 use Rattle.memory.specs.States.{Stands}
 use Rattle.memory.specs.declared.states.State.{State}
 
-all_prop : {X : Type 0} (P : X → Type 0) → ((x : X) → IsProp (P x)) → (xs : List X) → IsProp (All P xs)
+all_prop : {X : Type 0} (P : X → Type 0) → ((x : X) → IsProp (P x)) → (xs : List X) → IsProp (AllByRecursion P xs)
 all_prop P f [] p q = refl
 all_prop P f (x ∷ xs) p q = λ i. (f x p.0 q.0 i, all_prop P f xs p.1 q.1 i)
 

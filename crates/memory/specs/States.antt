@@ -1,6 +1,6 @@
 -- The book that a memory stands for. Assumes nothing.
 use Rattle.std.specs.Prelude.{◌≡◌, List, Ok, Err, Result}
-use Rattle.std.specs.List.{AllByRecursion as All}
+use Rattle.std.specs.List.{AllByRecursion}
 use Rattle.rules.specs.declared.answers.Refusal.{Refusal}
 use Rattle.rules.specs.Books.{Ranking, Book}
 use Rattle.rules.specs.Quantities.{resting}
@@ -27,7 +27,7 @@ book_of s =
 
 -- each row of the table tells how many shares of its order rest
 abbrev pub Tallied : List Resting → Book → Type 0
-Tallied rows b = All (λ r. r.quantity ≡ resting r.order.number b) rows
+Tallied rows b = AllByRecursion (λ r. r.quantity ≡ resting r.order.number b) rows
 
 -- what is so of a memory between calls: its book is sound, and its table tells what rests
 pub record Stands (rank : Ranking) (s : State) : Type 0 where

@@ -1,4 +1,6 @@
 //! The whole memory of a book, and which book of the rules it stands for.
+#![tactic(auto)]
+
 mod replies;
 mod states;
 mod viewing;

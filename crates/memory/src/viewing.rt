@@ -1,6 +1,6 @@
 //! A book's memory is made, and looked at.
 ghost use Rattle.std.specs.Prelude.{◌≡◌, ◌<◌, [], Ok as Done};
-ghost use Rattle.rules.specs.Books.{side as levels-on, away as away-price};
+ghost use Rattle.rules.specs.Books.{side as levels_on, away as away_price};
 ghost use Rattle.rules.specs.Rules.{make, new_book};
 ghost use Rattle.levels.specs.Sides.{levels_of};
 ghost use Rattle.orders.specs.Rows.{rows_of};
@@ -47,7 +47,7 @@ impl State {
 
     /// The price levels of a side.
     pub fn side(&self, side: Side) -> &Levels
-        ensures { levels_of result.now ≡ levels-on side (book_of self.now) }
+        ensures { levels_of result.now ≡ levels_on side (book_of self.now) }
     {
         match side {
             Side::Buy => &self.buys,
@@ -57,7 +57,7 @@ impl State {
 
     /// The away price of a side; 0 means none.
     pub fn away(&self, side: Side) -> u32
-        ensures { result ≡ away-price side (book_of self.now) }
+        ensures { result ≡ away_price side (book_of self.now) }
     {
         match side {
             Side::Buy => self.bid,

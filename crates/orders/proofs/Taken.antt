@@ -1,7 +1,7 @@
 -- Rows of the table less what trades take. Assumes nothing.
 use Rattle.std.proofs.Common.{◌≡◌, ℕ, zero, suc, ◌+◌, ◌-◌, ◌<◌, ◌≤◌, true, false, cond, eqb, List, [], ◌∷◌, map, length, get_or, take, drop, set, sym, refl, ap, ◌∙◌, subst, arith}
 use mathlib.Core.Bool.{false≢true}
-use Rattle.std.specs.List.{AllByRecursion as All}
+use Rattle.std.specs.List.{AllByRecursion}
 use Rattle.std.proofs.lemmas.List.{drop_more, at_drop_all}
 use Rattle.std.proofs.lemmas.Bool.{eqb-false, eq-eqb, ne_eqb, or_parts}
 use Rattle.rules.specs.Lists.{has, Distinct}
@@ -27,7 +27,7 @@ less_none r = let same : r.quantity - 0 ≡ r.quantity = omega arith in ap (λ (
 -- ## One row
 
 -- an order that the table has is found in it
-pub found_within : (n : ℕ) (rs : List Resting) (i : ℕ) → i ≤ length rs → All (λ x. (x.order.number ≡ n → ⊥)) (take i rs) → has n (numbers (orders_in rs)) ≡ true → i < length rs
+pub found_within : (n : ℕ) (rs : List Resting) (i : ℕ) → i ≤ length rs → AllByRecursion (λ x. (x.order.number ≡ n → ⊥)) (take i rs) → has n (numbers (orders_in rs)) ≡ true → i < length rs
 found_within n [] i le a h = absurd (false≢true h)
 found_within n (r ∷ rs) zero le a h = omega arith
 found_within n (r ∷ rs) (suc i) le a h = omega (arith, found_within n rs i (omega arith) a.1 (rw (ne_eqb r.order.number n a.0) at h))
@@ -41,7 +41,7 @@ other_rows n q (r ∷ rs) h =
     ap (λ t. less r (cond t q 0) ∷ map (λ r. less r (cond (eqb n r.order.number) q 0)) rs) ne ∙ ap (λ x. x ∷ map (λ r. less r (cond (eqb n r.order.number) q 0)) rs) (less_none r) ∙ ap (λ xs. r ∷ xs) (other_rows n q rs k.1)
 
 -- the row of the order n is the one at i
-pub one_row : (n q : ℕ) (rs : List Resting) (i : ℕ) (d : Resting) → Distinct (numbers (orders_in rs)) → i < length rs → (get_or rs i d).order.number ≡ n → All (λ x. (x.order.number ≡ n → ⊥)) (take i rs)
+pub one_row : (n q : ℕ) (rs : List Resting) (i : ℕ) (d : Resting) → Distinct (numbers (orders_in rs)) → i < length rs → (get_or rs i d).order.number ≡ n → AllByRecursion (λ x. (x.order.number ≡ n → ⊥)) (take i rs)
     → set rs i (less (get_or rs i d) q) ≡ map (λ r. less r (cond (eqb n r.order.number) q 0)) rs
 one_row n q [] i d once lt e a = absurd (omega arith)
 one_row n q (r ∷ rs) zero d once lt e a =
@@ -53,7 +53,7 @@ one_row n q (r ∷ rs) (suc i) d once lt e a =
     sym (ap (λ t. less r (cond t q 0) ∷ map (λ r. less r (cond (eqb n r.order.number) q 0)) rs) ne ∙ ap (λ x. x ∷ map (λ r. less r (cond (eqb n r.order.number) q 0)) rs) (less_none r) ∙ ap (λ xs. r ∷ xs) (sym (one_row n q rs i d once.1 (omega arith) e a.1)))
 
 -- there is enough at i
-pub enough_at : (n q : ℕ) (rs : List Resting) (i : ℕ) (d : Resting) → i < length rs → (get_or rs i d).order.number ≡ n → All (λ r. cond (eqb n r.order.number) q 0 ≤ r.quantity) rs → q ≤ (get_or rs i d).quantity
+pub enough_at : (n q : ℕ) (rs : List Resting) (i : ℕ) (d : Resting) → i < length rs → (get_or rs i d).order.number ≡ n → AllByRecursion (λ r. cond (eqb n r.order.number) q 0 ≤ r.quantity) rs → q ≤ (get_or rs i d).quantity
 enough_at n q [] i d lt e a = absurd (omega arith)
 enough_at n q (r ∷ rs) zero d lt e a = rw (eq-eqb n r.order.number (sym e)) at a.0
 enough_at n q (r ∷ rs) (suc i) d lt e a = enough_at n q rs i d (omega arith) e a.1
@@ -77,11 +77,11 @@ by_one x xs [] = refl
 by_one x xs (r ∷ rs) =
     ap (λ y. y ∷ deducted xs (deducted_by x rs)) (less_twice r (takes r.order.number x) (taken_from r.order.number xs)) ∙ ap (λ ys. less r (takes r.order.number x + taken_from r.order.number xs) ∷ ys) (by_one x xs rs)
 
-still_enough : (x : Row) (xs : List Row) (rs : List Resting) → All (λ r. takes r.order.number x + taken_from r.order.number xs ≤ r.quantity) rs → All (λ r. taken_from r.order.number xs ≤ r.quantity) (deducted_by x rs)
+still_enough : (x : Row) (xs : List Row) (rs : List Resting) → AllByRecursion (λ r. takes r.order.number x + taken_from r.order.number xs ≤ r.quantity) rs → AllByRecursion (λ r. taken_from r.order.number xs ≤ r.quantity) (deducted_by x rs)
 still_enough x xs [] a = tt
 still_enough x xs (r ∷ rs) a = (omega (arith, a.0), still_enough x xs rs a.1)
 
-enough_for : (x : Row) (xs : List Row) (rs : List Resting) → All (λ r. takes r.order.number x + taken_from r.order.number xs ≤ r.quantity) rs → All (λ r. takes r.order.number x ≤ r.quantity) rs
+enough_for : (x : Row) (xs : List Row) (rs : List Resting) → AllByRecursion (λ r. takes r.order.number x + taken_from r.order.number xs ≤ r.quantity) rs → AllByRecursion (λ r. takes r.order.number x ≤ r.quantity) rs
 enough_for x xs [] a = tt
 enough_for x xs (r ∷ rs) a = (omega (arith, a.0), enough_for x xs rs a.1)
 
@@ -89,14 +89,14 @@ enough_for x xs (r ∷ rs) a = (omega (arith, a.0), enough_for x xs rs a.1)
 pub record Deducting (xs : List Row) (i : ℕ) (before now : List Resting) : Type 0 where
   pub whole : deducted (drop i xs) now ≡ deducted xs before
   pub orders : orders_in now ≡ orders_in before
-  pub enough : All (λ r. taken_from r.order.number (drop i xs) ≤ r.quantity) now
+  pub enough : AllByRecursion (λ r. taken_from r.order.number (drop i xs) ≤ r.quantity) now
 
-pub deducting_start : (xs : List Row) (rs : List Resting) → All (λ r. taken_from r.order.number xs ≤ r.quantity) rs → Deducting xs 0 rs rs
+pub deducting_start : (xs : List Row) (rs : List Resting) → AllByRecursion (λ r. taken_from r.order.number xs ≤ r.quantity) rs → Deducting xs 0 rs rs
 deducting_start xs rs a = record { whole = refl; orders = refl; enough = a }
 
-pub deducting_enough : {xs : List Row} {i : ℕ} {before now : List Resting} (d : Row) → Deducting xs i before now → i < length xs → All (λ r. takes r.order.number (get_or xs i d) ≤ r.quantity) now
+pub deducting_enough : {xs : List Row} {i : ℕ} {before now : List Resting} (d : Row) → Deducting xs i before now → i < length xs → AllByRecursion (λ r. takes r.order.number (get_or xs i d) ≤ r.quantity) now
 deducting_enough {xs} {i} {before} {now} d s lt =
-    enough_for (get_or xs i d) (drop (i + 1) xs) now (subst (λ (ys : List Row). All (λ r. taken_from r.order.number ys ≤ r.quantity) now) (drop_more xs i d lt) s.enough)
+    enough_for (get_or xs i d) (drop (i + 1) xs) now (subst (λ (ys : List Row). AllByRecursion (λ r. taken_from r.order.number ys ≤ r.quantity) now) (drop_more xs i d lt) s.enough)
 
 pub deducting_more : {xs : List Row} {i : ℕ} {before now : List Resting} (d : Row) (next : List Resting) → Deducting xs i before now → i < length xs → next ≡ deducted_by (get_or xs i d) now → Deducting xs (i + 1) before next
 deducting_more {xs} {i} {before} {now} d next s lt is =
@@ -105,7 +105,7 @@ deducting_more {xs} {i} {before} {now} d next s lt is =
     record {
       whole = ap (deducted ys) is ∙ by_one x ys now ∙ ap (λ zs. deducted zs now) (sym (drop_more xs i d lt)) ∙ s.whole;
       orders = ap orders_in is ∙ same_orders (λ r. takes r.order.number x) now ∙ s.orders;
-      enough = subst (λ (rs : List Resting). All (λ r. taken_from r.order.number ys ≤ r.quantity) rs) (sym is) (still_enough x ys now (subst (λ (zs : List Row). All (λ r. taken_from r.order.number zs ≤ r.quantity) now) (drop_more xs i d lt) s.enough));
+      enough = subst (λ (rs : List Resting). AllByRecursion (λ r. taken_from r.order.number ys ≤ r.quantity) rs) (sym is) (still_enough x ys now (subst (λ (zs : List Row). AllByRecursion (λ r. taken_from r.order.number zs ≤ r.quantity) now) (drop_more xs i d lt) s.enough));
     }
 
 pub deducting_over : {xs : List Row} {i : ℕ} {before now : List Resting} → Deducting xs i before now → length xs ≤ i → now ≡ deducted xs before

@@ -1,6 +1,6 @@
 //! What is left of an order comes to rest in the book.
 ghost use Rattle.std.specs.Prelude.{◌≡◌, ◌+◌, ◌<◌, ◌≤◌, true, [], ◌∷◌, ◌++◌, length};
-ghost use Rattle.rules.specs.Books.{ranked_by, side as levels-on};
+ghost use Rattle.rules.specs.Books.{ranked_by, side as levels_on};
 ghost use Rattle.rules.specs.Refusals.{rests};
 ghost use Rattle.rules.specs.Entering.{place, with_order};
 ghost use Rattle.levels.specs.Heads.{count};
@@ -18,8 +18,8 @@ fn place_parts<K: Ranking>(state: &mut State, order: Order, left: u32)
     requires rests { rests order.kind ≡ true }
     requires known { (0 < order.participant) × (order.participant < 25) }
     requires small { left ≤ 500000 }
-    requires parts { count (levels-on order.side (book_of state.old)) + 2 ≤ 384 }
-    requires prices { length (levels-on order.side (book_of state.old)) < 385 }
+    requires parts { count (levels_on order.side (book_of state.old)) + 2 ≤ 384 }
+    requires prices { length (levels_on order.side (book_of state.old)) < 385 }
     ensures book { book_of state.new ≡ place (ranked_by K.Ranking.initial K.Ranking.good) order.kind order left (book_of state.old) }
     ensures table { rows_of state.new.orders ≡ rows_of state.old.orders }
 {
@@ -36,8 +36,8 @@ pub fn place_order<K: Ranking>(state: &mut State, order: Order, left: u32)
     requires known { (0 < order.participant) × (order.participant < 25) }
     requires small { left ≤ 500000 }
     requires table { length (rows_of state.old.orders) < 128 }
-    requires parts { count (levels-on order.side (book_of state.old)) + 2 ≤ 384 }
-    requires prices { length (levels-on order.side (book_of state.old)) < 385 }
+    requires parts { count (levels_on order.side (book_of state.old)) + 2 ≤ 384 }
+    requires prices { length (levels_on order.side (book_of state.old)) < 385 }
     ensures book { book_of state.new ≡ with_order order (place (ranked_by K.Ranking.initial K.Ranking.good) order.kind order left (book_of state.old)) }
     ensures table { rows_of state.new.orders ≡ rows_of state.old.orders ++ record { order = order; quantity = left } ∷ [] }
 {

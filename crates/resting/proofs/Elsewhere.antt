@@ -1,6 +1,6 @@
 -- Taking shares off an order leaves the levels alone that have nothing of it. Assumes nothing.
 use Rattle.std.proofs.Common.{◌≡◌, ℕ, zero, suc, ◌+◌, ◌-◌, ◌<◌, ◌≤◌, min, Bool, true, false, cond, eqb, ltb, leb, List, [], ◌∷◌, reverse, length, get_or, take, drop, set, filter, sym, refl, ap, ◌∙◌, subst, arith}
-use Rattle.std.specs.List.{AllByRecursion as All}
+use Rattle.std.specs.List.{AllByRecursion}
 use Rattle.std.proofs.lemmas.Bool.{lt-leb, lt-ltb, eq-eqb}
 use Rattle.std.proofs.lemmas.Bool.Decides.{nat_tests}
 use Rattle.allocation.specs.ByTime.{shares_in_order}
@@ -18,7 +18,7 @@ use Rattle.resting.proofs.Off.{off_both}
 use Rattle.rules.specs.Invariants.{SoundQueue}
 
 abbrev Zeros : List ℕ → Type 0
-Zeros xs = All (λ x. x ≡ 0) xs
+Zeros xs = AllByRecursion (λ x. x ≡ 0) xs
 
 -- ## Nothing to take
 
@@ -36,7 +36,7 @@ late_none q (n ∷ ns) z = (omega (arith, z.0), late_none q ns z.1)
 
 -- ## A queue that loses nothing
 
-lowered_none : (ps : List Part) (xs : List ℕ) → All (λ p. 0 < p.quantity) ps → Zeros xs → lowered ps xs ≡ ps
+lowered_none : (ps : List Part) (xs : List ℕ) → AllByRecursion (λ p. 0 < p.quantity) ps → Zeros xs → lowered ps xs ≡ ps
 lowered_none [] xs a z = refl
 lowered_none (p ∷ ps) [] a z = refl
 lowered_none (p ∷ ps) (x ∷ xs) a z =
@@ -76,7 +76,7 @@ off_none lot n m l w =
     let shown = lose_none lot l.shown (reverse (shares_in_order k (reverse s))) w.shown (subst (λ (xs : List ℕ). Zeros xs) (late_is k s) (late_none k s (pieces_none n l.shown.parts (omega (arith, w.none))))) in
     sym (off_both n m l) ∙ ap (λ x. level l.price (lose (reverse (shares_in_order k (reverse s))) l.shown) x) hidden ∙ ap (λ x. level l.price x l.hidden) shown
 
-pub off_others : (lot n m : ℕ) (ls : List Level) → All (Without lot n) ls → take_off_side n m ls ≡ ls
+pub off_others : (lot n m : ℕ) (ls : List Level) → AllByRecursion (Without lot n) ls → take_off_side n m ls ≡ ls
 unfolding take_off_side
 off_others lot n m [] a = refl
 off_others lot n m (l ∷ ls) a = ap (λ x. x ∷ take_off_side n (m - of_level n l) ls) (off_none lot n m l a.0) ∙ ap (λ x. l ∷ x) (off_others lot n (m - of_level n l) ls a.1)
@@ -90,4 +90,4 @@ off_alone lot n m (suc i) (l ∷ ls) d lt a =
     let on : suc i + 1 ≡ suc (i + 1) = omega arith in
     ap (λ x. x ∷ take_off_side n (m - of_level n l) ls) (off_none lot n m l a.before.0)
     ∙ ap (λ k. l ∷ take_off_side n k ls) less
-    ∙ ap (λ x. l ∷ x) (off_alone lot n m i ls d (omega arith) (record { before = a.before.1; after = subst (λ k. All (Without lot n) (drop k (l ∷ ls))) on a.after }))
+    ∙ ap (λ x. l ∷ x) (off_alone lot n m i ls d (omega arith) (record { before = a.before.1; after = subst (λ k. AllByRecursion (Without lot n) (drop k (l ∷ ls))) on a.after }))

@@ -2,7 +2,7 @@
 use Rattle.std.proofs.Common.{◌≡◌, ℕ, zero, suc, ◌+◌, ◌-◌, ◌<◌, ◌≤◌, min, Bool, true, false, cond, ◌&&◌, eqb, ltb, List, [], ◌∷◌, length, get_or, set, sym, refl, ap, ◌∙◌, arith}
 use Rattle.std.proofs.lemmas.Bool.{eq-eqb}
 use Rattle.std.proofs.lemmas.Bool.Decides.{nat_tests}
-use Rattle.std.specs.List.{AllByRecursion as All}
+use Rattle.std.specs.List.{AllByRecursion}
 use Rattle.std.proofs.lemmas.List.{set-get_or}
 use Rattle.allocation.specs.Dealings.{total, sum}
 use Rattle.allocation.specs.ByTime.{shares_in_order}
@@ -63,7 +63,7 @@ pub show_some : (lot : ℕ) (e : Order) (mark : Bool) (l : Level) → runs_low l
 unfolding show_anew
 show_some lot e mark l h = rw h
 
-pub all_at : {X : Type 0} (P : X → Type 0) (xs : List X) (k : ℕ) (d : X) → All P xs → k < length xs → P (get_or xs k d)
+pub all_at : {X : Type 0} (P : X → Type 0) (xs : List X) (k : ℕ) (d : X) → AllByRecursion P xs → k < length xs → P (get_or xs k d)
 all_at P [] k d a lt = absurd (omega arith)
 all_at P (x ∷ xs) zero d a lt = a.0
 all_at P (x ∷ xs) (suc k) d a lt = all_at P xs k d a.1 (omega arith)

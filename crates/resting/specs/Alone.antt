@@ -1,6 +1,6 @@
 -- An order that rests at one price of a side alone. Assumes nothing.
 use Rattle.std.specs.Prelude.{◌≡◌, ℕ, ◌+◌, ◌<◌, List, take, drop}
-use Rattle.std.specs.List.{AllByRecursion as All}
+use Rattle.std.specs.List.{AllByRecursion}
 use Rattle.allocation.specs.Dealings.{Seated, interest}
 use Rattle.rules.specs.Books.{Queue, Level}
 use Rattle.rules.specs.Quantities.{claims, of_level}
@@ -14,5 +14,5 @@ pub record Without (lot n : ℕ) (l : Level) : Type 0 where
 
 -- no level but the one at i has something of the order n
 pub record Alone (lot n i : ℕ) (ls : List Level) : Type 0 where
-  pub before : All (Without lot n) (take i ls)
-  pub after : All (Without lot n) (drop (i + 1) ls)
+  pub before : AllByRecursion (Without lot n) (take i ls)
+  pub after : AllByRecursion (Without lot n) (drop (i + 1) ls)

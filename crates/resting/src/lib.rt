@@ -1,4 +1,6 @@
 //! Orders at rest on a side: its best price, the setter mark, shares taken off, and reserve shown anew.
+#![tactic(auto)]
+
 mod halts;
 mod marks;
 mod offs;

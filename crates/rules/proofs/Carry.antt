@@ -1,6 +1,6 @@
 -- Kind.Reserve carries interest and slack over. Assumes nothing.
 use Rattle.std.proofs.Common.{◌≡◌, ℕ, ◌-◌, ◌<◌, ◌≤◌, min, Bool, true, false, cond, ◌&&◌, eqb, List, [], ◌∷◌, fold, sym, refl, subst, arith}
-use Rattle.std.specs.List.{AllByRecursion as All}
+use Rattle.std.specs.List.{AllByRecursion}
 use Rattle.std.proofs.lemmas.List.{map_push}
 use Rattle.std.proofs.lemmas.Bool.{ltb-true, and_parts}
 use Rattle.allocation.specs.Rankings.{TotalOrder}
@@ -153,7 +153,7 @@ module _ (rank : Ranking) (O : TotalOrder rank.good) (lot : ℕ) (pos : 0 < lot)
       go true = carry_trans p r lot cat l m (level_at v (side s (on rank e (show_anew b.lot e mark) c))) one two
       go false = carry_refl p r lot cat l
 
-  pub all_carry : (p r : ℕ) (cat : Category) (s : Side) (v : ℕ) (es : List Order) (b : Book) (xs : List Order) → Distinct (numbers es) → All Displays xs → All (OwnListed es) xs → Midway rank O lot pos es b → Carry p r lot cat (level_at v (side s b)) (level_at v (side s (fold (replenish_order rank) b xs)))
+  pub all_carry : (p r : ℕ) (cat : Category) (s : Side) (v : ℕ) (es : List Order) (b : Book) (xs : List Order) → Distinct (numbers es) → AllByRecursion Displays xs → AllByRecursion (OwnListed es) xs → Midway rank O lot pos es b → Carry p r lot cat (level_at v (side s b)) (level_at v (side s (fold (replenish_order rank) b xs)))
   all_carry p r cat s v es b [] once d o t = carry_refl p r lot cat (level_at v (side s b))
   all_carry p r cat s v es b (e ∷ xs) once d o t =
       carry_trans p r lot cat (level_at v (side s b)) (level_at v (side s (replenish_order rank b e))) (level_at v (side s (fold (replenish_order rank) (replenish_order rank b e) xs)))

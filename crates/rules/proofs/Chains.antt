@@ -1,7 +1,7 @@
 -- Stages in a row, and the order of trades that they give. Assumes nothing.
 use Rattle.std.proofs.Common.{◌≡◌, ℕ, zero, suc, ◌+◌, ◌-◌, ◌<◌, ◌≤◌, Bool, true, false, cond, ◌||◌, eqb, ◌⊎◌, List, [], ◌∷◌, ◌++◌, map, sym, refl, ap, ◌∙◌, subst, inl, inr, arith}
 use mathlib.Core.Bool.{false≢true}
-use Rattle.std.specs.List.{AllByRecursion as All}
+use Rattle.std.specs.List.{AllByRecursion}
 use Rattle.std.proofs.ByRecursion.{All-append, All-weaker}
 use Rattle.allocation.specs.Rankings.{TotalOrder}
 use Rattle.allocation.specs.Dealings.{sum}
@@ -40,7 +40,7 @@ Chain q (g ∷ gs) left = (m : ℕ) × Stage q g.parts g.xs m × Chain m gs left
 
 -- ## One group
 
-meet_within : (v : ℕ) (s : Step) (ps : List Part) (xs : List ℕ) → AtMost xs ps → All (λ x. x.share ≤ x.size) (meet v s ps xs)
+meet_within : (v : ℕ) (s : Step) (ps : List Part) (xs : List ℕ) → AtMost xs ps → AllByRecursion (λ x. x.share ≤ x.size) (meet v s ps xs)
 meet_within v s [] xs h = tt
 meet_within v s (p ∷ ps) [] h = (omega arith, meet_within v s ps [] tt)
 meet_within v s (p ∷ ps) (x ∷ xs) h = (h.0, meet_within v s ps xs h.1)
@@ -50,7 +50,7 @@ at_most_sum ps [] h = omega arith
 at_most_sum [] (x ∷ xs) h = absurd h
 at_most_sum (p ∷ ps) (x ∷ xs) h = omega (arith, h.0, at_most_sum ps xs h.1)
 
-meet_full : (v : ℕ) (s : Step) (ps : List Part) (xs : List ℕ) → AtMost xs ps → sum xs ≡ amount ps → All (λ x. x.share ≡ x.size) (meet v s ps xs)
+meet_full : (v : ℕ) (s : Step) (ps : List Part) (xs : List ℕ) → AtMost xs ps → sum xs ≡ amount ps → AllByRecursion (λ x. x.share ≡ x.size) (meet v s ps xs)
 meet_full v s [] xs h e = tt
 meet_full v s (p ∷ ps) [] h e = (omega arith, meet_full v s ps [] tt (omega arith))
 meet_full v s (p ∷ ps) (x ∷ xs) h e = let l = at_most_sum ps xs h.1 in let k = h.0 in (omega arith, meet_full v s ps xs h.1 (omega arith))
@@ -61,12 +61,12 @@ meet_sum v s [] (x ∷ xs) h = absurd h
 meet_sum v s (p ∷ ps) [] h = omega (arith, meet_sum v s ps [] tt)
 meet_sum v s (p ∷ ps) (x ∷ xs) h = omega (arith, meet_sum v s ps xs h.1)
 
-meet_small : (v : ℕ) (s : Step) (ps : List Part) (xs : List ℕ) → All (λ x. x.share ≤ sum xs) (meet v s ps xs)
+meet_small : (v : ℕ) (s : Step) (ps : List Part) (xs : List ℕ) → AllByRecursion (λ x. x.share ≤ sum xs) (meet v s ps xs)
 meet_small v s [] xs = tt
 meet_small v s (p ∷ ps) [] = (omega arith, meet_small v s ps [])
 meet_small v s (p ∷ ps) (x ∷ xs) = (omega arith, All-weaker (λ y. y.share ≤ sum xs) (λ y. y.share ≤ x + sum xs) (λ y h. omega arith) (meet v s ps xs) (meet_small v s ps xs))
 
-meet_label : (v : ℕ) (s : Step) (ps : List Part) (xs : List ℕ) → All (λ x. (x.price ≡ v) × (x.step ≡ s)) (meet v s ps xs)
+meet_label : (v : ℕ) (s : Step) (ps : List Part) (xs : List ℕ) → AllByRecursion (λ x. (x.price ≡ v) × (x.step ≡ s)) (meet v s ps xs)
 meet_label v s [] xs = tt
 meet_label v s (p ∷ ps) [] = ((refl, refl), meet_label v s ps [])
 meet_label v s (p ∷ ps) (x ∷ xs) = ((refl, refl), meet_label v s ps xs)
@@ -104,7 +104,7 @@ pub chain_append : (q m left : ℕ) (gs hs : List Group) → Chain q gs m → Ch
 chain_append q m left [] hs h k = subst (λ n. Chain n hs left) (sym h) k
 chain_append q m left (g ∷ gs) hs h k = (h.0, h.1, chain_append h.0 m left gs hs h.2 k)
 
-chain_small : (q : ℕ) (gs : List Group) (left : ℕ) → Chain q gs left → All (λ x. x.share ≤ q) (reached gs)
+chain_small : (q : ℕ) (gs : List Group) (left : ℕ) → Chain q gs left → AllByRecursion (λ x. x.share ≤ q) (reached gs)
 chain_small q [] left h = tt
 chain_small q (g ∷ gs) left h =
     let e = h.1.spent in
@@ -112,13 +112,13 @@ chain_small q (g ∷ gs) left h =
     (All-weaker (λ y. y.share ≤ sum g.xs) (λ y. y.share ≤ q) (λ y k. omega arith) (meet g.price g.step g.parts g.xs) (meet_small g.price g.step g.parts g.xs))
     (All-weaker (λ y. y.share ≤ h.0) (λ y. y.share ≤ q) (λ y k. omega arith) (reached gs) (chain_small h.0 gs left h.2))
 
-pub chain_within : (q : ℕ) (gs : List Group) (left : ℕ) → Chain q gs left → All (λ x. x.share ≤ x.size) (reached gs)
+pub chain_within : (q : ℕ) (gs : List Group) (left : ℕ) → Chain q gs left → AllByRecursion (λ x. x.share ≤ x.size) (reached gs)
 chain_within q [] left h = tt
 chain_within q (g ∷ gs) left h =
     All-append (λ x. x.share ≤ x.size) (meet g.price g.step g.parts g.xs) (reached gs)
     (meet_within g.price g.step g.parts g.xs h.1.at_most) (chain_within h.0 gs left h.2)
 
-pub chain_full : (q : ℕ) (gs : List Group) (left : ℕ) → Chain q gs left → 0 < left → All (λ x. x.share ≡ x.size) (reached gs)
+pub chain_full : (q : ℕ) (gs : List Group) (left : ℕ) → Chain q gs left → 0 < left → AllByRecursion (λ x. x.share ≡ x.size) (reached gs)
 chain_full q [] left h some = tt
 chain_full q (g ∷ gs) left h some =
     let l = chain_less h.0 gs left h.2 in
@@ -179,7 +179,7 @@ module _ (rank : Ranking) (O : TotalOrder rank.good) where
 
   abbrev pub Ordered : Side → List Step → List Group → Type 0
   Ordered s table [] = Unit {0}
-  Ordered s table (g ∷ gs) = All (Ahead s table g) gs × Ordered s table gs
+  Ordered s table (g ∷ gs) = AllByRecursion (Ahead s table g) gs × Ordered s table gs
 
   label_never : (s : Side) (a b i j : ℕ) → (better rank s a b ≡ true) ⊎ ((a ≡ b) × (i < j)) → (better rank s b a ≡ true) ⊎ ((b ≡ a) × (j < i)) → ⊥
   label_never s a b i j (inl h) (inl k) = not_both s a b h k
@@ -206,33 +206,33 @@ module _ (rank : Ranking) (O : TotalOrder rank.good) where
   Right s table y x = Better rank s table x y → 0 < y.share → x.share ≡ x.size
 
   -- all that stands in later groups, behind y of the group g
-  behind : (s : Side) (table : List Step) (g : Group) (y : Reached) → Label g y → (hs : List Group) → All (Ahead s table g) hs → All (Right s table y) (reached hs)
+  behind : (s : Side) (table : List Step) (g : Group) (y : Reached) → Label g y → (hs : List Group) → AllByRecursion (Ahead s table g) hs → AllByRecursion (Right s table y) (reached hs)
   behind s table g y ly [] a = tt
   behind s table g y ly (h ∷ hs) a =
       All-append (Right s table y) (meet h.price h.step h.parts h.xs) (reached hs)
       (All-weaker (Label h) (Right s table y) (λ x lx b some. absurd (never_before s table g h x y a.0 ly lx b)) (meet h.price h.step h.parts h.xs) (meet_label h.price h.step h.parts h.xs))
       (behind s table g y ly hs a.1)
 
-  pub chain_order : (s : Side) (table : List Step) (q : ℕ) (gs : List Group) (left : ℕ) → Chain q gs left → Ordered s table gs → All (λ y. All (Right s table y) (reached gs)) (reached gs)
+  pub chain_order : (s : Side) (table : List Step) (q : ℕ) (gs : List Group) (left : ℕ) → Chain q gs left → Ordered s table gs → AllByRecursion (λ y. AllByRecursion (Right s table y) (reached gs)) (reached gs)
   chain_order s table q [] left c o = tt
   chain_order s table q (g ∷ gs) left c o =
       let here : List Reached = meet g.price g.step g.parts g.xs in
-      let label : All (Label g) here = meet_label g.price g.step g.parts g.xs in
-      let small : All (λ y. y.share ≤ c.0) (reached gs) = chain_small c.0 gs left c.2 in
-      let full : 0 < c.0 → All (λ x. x.share ≡ x.size) here = λ some. meet_full g.price g.step g.parts g.xs c.1.at_most (c.1.full some) in
-      let ih : All (λ y. All (Right s table y) (reached gs)) (reached gs) = chain_order s table c.0 gs left c.2 o.1 in
-      let first : (y : Reached) → Label g y → All (Right s table y) (here ++ reached gs) = λ y ly.
+      let label : AllByRecursion (Label g) here = meet_label g.price g.step g.parts g.xs in
+      let small : AllByRecursion (λ y. y.share ≤ c.0) (reached gs) = chain_small c.0 gs left c.2 in
+      let full : 0 < c.0 → AllByRecursion (λ x. x.share ≡ x.size) here = λ some. meet_full g.price g.step g.parts g.xs c.1.at_most (c.1.full some) in
+      let ih : AllByRecursion (λ y. AllByRecursion (Right s table y) (reached gs)) (reached gs) = chain_order s table c.0 gs left c.2 o.1 in
+      let first : (y : Reached) → Label g y → AllByRecursion (Right s table y) (here ++ reached gs) = λ y ly.
       All-append (Right s table y) here (reached gs) (All-weaker (Label g) (Right s table y) (λ x lx b some. absurd (never_within s table g x y ly lx b)) here label) (behind s table g y ly gs o.0) in
-      let later : (y : Reached) → (y.share ≤ c.0) × All (Right s table y) (reached gs) → All (Right s table y) (here ++ reached gs) = λ y h.
+      let later : (y : Reached) → (y.share ≤ c.0) × AllByRecursion (Right s table y) (reached gs) → AllByRecursion (Right s table y) (here ++ reached gs) = λ y h.
       All-append (Right s table y) here (reached gs) (front s table y c.0 here h.0 full) h.1 in
-      All-append (λ y. All (Right s table y) (here ++ reached gs)) here (reached gs)
-      (All-weaker (Label g) (λ y. All (Right s table y) (here ++ reached gs)) first here label)
-      (All-weaker (λ y. (y.share ≤ c.0) × All (Right s table y) (reached gs)) (λ y. All (Right s table y) (here ++ reached gs)) later (reached gs) (all_both (λ y. y.share ≤ c.0) (λ y. All (Right s table y) (reached gs)) (reached gs) small ih))
+      All-append (λ y. AllByRecursion (Right s table y) (here ++ reached gs)) here (reached gs)
+      (All-weaker (Label g) (λ y. AllByRecursion (Right s table y) (here ++ reached gs)) first here label)
+      (All-weaker (λ y. (y.share ≤ c.0) × AllByRecursion (Right s table y) (reached gs)) (λ y. AllByRecursion (Right s table y) (here ++ reached gs)) later (reached gs) (all_both (λ y. y.share ≤ c.0) (λ y. AllByRecursion (Right s table y) (reached gs)) (reached gs) small ih))
     where
-      front : (s : Side) (table : List Step) (y : Reached) (m : ℕ) (here : List Reached) → y.share ≤ m → (0 < m → All (λ x. x.share ≡ x.size) here) → All (Right s table y) here
+      front : (s : Side) (table : List Step) (y : Reached) (m : ℕ) (here : List Reached) → y.share ≤ m → (0 < m → AllByRecursion (λ x. x.share ≡ x.size) here) → AllByRecursion (Right s table y) here
       front s table y zero here h full = every here
         where
-          every : (xs : List Reached) → All (Right s table y) xs
+          every : (xs : List Reached) → AllByRecursion (Right s table y) xs
           every [] = tt
           every (x ∷ xs) = ((λ b some. (let no_way : ⊥ = omega arith in absurd no_way)), every xs)
       front s table y (suc m) here h full = All-weaker (λ x. x.share ≡ x.size) (Right s table y) (λ x e b some. e) here (full (omega arith))

@@ -1,7 +1,7 @@
 -- How many parts there can be on a side, and how many rows. Assumes nothing.
 use Rattle.std.proofs.Common.{◌≡◌, ℕ, zero, suc, ◌+◌, ◌-◌, ◌*◌, ◌<◌, ◌≤◌, min, Bool, true, false, cond, not, ◌&&◌, ◌||◌, eqb, List, [], ◌∷◌, length, filter, sym, refl, ◌∙◌, subst, mul-zero, mul-one, mul-add, arith}
 use mathlib.Core.Bool.{false≢true}
-use Rattle.std.specs.List.{AllByRecursion as All}
+use Rattle.std.specs.List.{AllByRecursion}
 use Rattle.std.proofs.lemmas.List.{length-append}
 use Rattle.std.proofs.lemmas.Bool.{eqb-true, eqb-false, eq-eqb, ne_eqb, and_parts}
 use Rattle.std.proofs.ByRecursion.{All-weaker}
@@ -30,7 +30,7 @@ use Rattle.rules.proofs.Listing.{Unique, unique_each, listed_number}
 abbrev pub order_at : ℕ → Level → ℕ
 order_at n l = parts_of n l.shown.parts + parts_of n l.hidden.parts
 
-none_there : (es : List Order) (s : Side) (v : ℕ) (e : Order) (ps : List Part) → Unique es e → (same_side e.side s && eqb e.price v) ≡ false → All (λ p. listed es s v p ≡ true) ps → parts_of e.number ps ≡ 0
+none_there : (es : List Order) (s : Side) (v : ℕ) (e : Order) (ps : List Part) → Unique es e → (same_side e.side s && eqb e.price v) ≡ false → AllByRecursion (λ p. listed es s v p ≡ true) ps → parts_of e.number ps ≡ 0
 none_there es s v e [] u ne h = refl
 none_there es s v e (p ∷ ps) u ne h =
     let apart : eqb p.order e.number ≡ false = ne_eqb p.order e.number (λ same.
@@ -42,7 +42,7 @@ elsewhere_none : (es : List Order) (s : Side) (e : Order) (l : Level) → Unique
 elsewhere_none es s e l u ne o = omega (arith, none_there es s l.price e l.shown.parts u ne o.0.listed, none_there es s l.price e l.hidden.parts u ne o.1.listed)
 
 -- what is counted at one price alone is counted once
-one_price : (g : Level → ℕ) (k v : ℕ) (ls : List Level) → Distinct (prices ls) → All (λ l. (g l ≤ k) × (eqb v l.price ≡ false → g l ≡ 0)) ls → (sum_of g ls ≤ k) × (has v (prices ls) ≡ false → sum_of g ls ≡ 0)
+one_price : (g : Level → ℕ) (k v : ℕ) (ls : List Level) → Distinct (prices ls) → AllByRecursion (λ l. (g l ≤ k) × (eqb v l.price ≡ false → g l ≡ 0)) ls → (sum_of g ls ≤ k) × (has v (prices ls) ≡ false → sum_of g ls ≡ 0)
 one_price g k v [] d h = (omega arith, λ _. refl)
 one_price g k v (l ∷ ls) d h = go (eqb l.price v) refl (one_price g k v ls d.1 h.1)
   where
@@ -55,7 +55,7 @@ one_price g k v (l ∷ ls) d h = go (eqb l.price v) refl (one_price g k v ls d.1
         (omega (arith, ih.0), λ w. (let i = ih.1 w in omega arith))
 
 -- an order's count g on its own side, and none on the other
-order_on : (es : List Order) (s : Side) (e : Order) (g : Level → ℕ) (k : ℕ) (ls : List Level) → Unique es e → Distinct (prices ls) → All (Orderly es s) ls
+order_on : (es : List Order) (s : Side) (e : Order) (g : Level → ℕ) (k : ℕ) (ls : List Level) → Unique es e → Distinct (prices ls) → AllByRecursion (Orderly es s) ls
     → ((l : Level) → Orderly es s l → (g l ≤ k) × (order_at e.number l ≡ 0 → g l ≡ 0)) → sum_of g ls ≤ cond (same_side e.side s) k 0
 order_on es s e g k ls u d h step = go (same_side e.side s) refl
   where
@@ -63,7 +63,7 @@ order_on es s e g k ls u d h step = go (same_side e.side s) refl
     go true z = (one_price g k e.price ls d (All-weaker (Orderly es s) (λ l. (g l ≤ k) × (eqb e.price l.price ≡ false → g l ≡ 0)) (λ l o. ((step l o).0, λ ne. (step l o).1 (elsewhere_none es s e l u (rw (z, ne)) o))) ls h)).0
     go false z = nothing ls (All-weaker (Orderly es s) (λ l. g l ≡ 0) (λ l o. (step l o).1 (elsewhere_none es s e l u (rw z) o)) ls h)
       where
-        nothing : (ls : List Level) → All (λ l. g l ≡ 0) ls → sum_of g ls ≤ 0
+        nothing : (ls : List Level) → AllByRecursion (λ l. g l ≡ 0) ls → sum_of g ls ≤ 0
         nothing [] a = omega arith
         nothing (l ∷ ls) a = omega (arith, a.0, nothing ls a.1)
 
@@ -85,7 +85,7 @@ no_sum : (es : List Order) → sum_of (λ (_ : Order). 0) es ≡ 0
 no_sum [] = refl
 no_sum (e ∷ es) = omega (arith, no_sum es)
 
-parts_counted : (es : List Order) (s : Side) (v : ℕ) (ps : List Part) → All (λ p. listed es s v p ≡ true) ps → length ps ≤ sum_of (λ e. parts_of e.number ps) es
+parts_counted : (es : List Order) (s : Side) (v : ℕ) (ps : List Part) → AllByRecursion (λ p. listed es s v p ≡ true) ps → length ps ≤ sum_of (λ e. parts_of e.number ps) es
 parts_counted es s v [] h = omega (arith, no_sum es)
 parts_counted es s v (p ∷ ps) h =
     omega (
@@ -95,7 +95,7 @@ parts_counted es s v (p ∷ ps) h =
       sum_both (λ e. cond (eqb p.order e.number) 1 0) (λ e. parts_of e.number ps) es,
     )
 
-levels_counted : (es : List Order) (s : Side) (ls : List Level) → All (Orderly es s) ls → parts_on ls ≤ sum_of (λ e. sum_of (order_at e.number) ls) es
+levels_counted : (es : List Order) (s : Side) (ls : List Level) → AllByRecursion (Orderly es s) ls → parts_on ls ≤ sum_of (λ e. sum_of (order_at e.number) ls) es
 levels_counted es s [] h = omega (arith, no_sum es)
 levels_counted es s (l ∷ ls) h =
     omega (
@@ -107,11 +107,11 @@ levels_counted es s (l ∷ ls) h =
       sum_both (λ e. order_at e.number l) (λ e. sum_of (order_at e.number) ls) es,
     )
 
-each_few : (f : Order → ℕ) (k : ℕ) (es : List Order) → All (λ e. f e ≤ k) es → sum_of f es ≤ k * length es
+each_few : (f : Order → ℕ) (k : ℕ) (es : List Order) → AllByRecursion (λ e. f e ≤ k) es → sum_of f es ≤ k * length es
 each_few f k [] h = omega (arith, mul-zero k)
 each_few f k (e ∷ es) h = omega (arith, h.0, each_few f k es h.1, mul-add k 1 (length es), mul-one k)
 
-pub order_few : (es : List Order) (s : Side) (e : Order) (ls : List Level) → Unique es e → Distinct (prices ls) → All (Orderly es s) ls → sum_of (order_at e.number) ls ≤ cond (same_side e.side s) 3 0
+pub order_few : (es : List Order) (s : Side) (e : Order) (ls : List Level) → Unique es e → Distinct (prices ls) → AllByRecursion (Orderly es s) ls → sum_of (order_at e.number) ls ≤ cond (same_side e.side s) 3 0
 order_few es s e ls u d h = order_on es s e (order_at e.number) 3 ls u d h (λ l o. (omega (arith, o.0.few e.number, o.1.few e.number), λ z. z))
 
 one_side : (t : Side) (k : ℕ) → cond (same_side t Buy) k 0 + cond (same_side t Sell) k 0 ≡ k
@@ -125,18 +125,18 @@ side_le Sell Buy k = omega arith
 side_le Sell Sell k = omega arith
 
 -- a side holds three parts an order at most
-pub few_parts : (rank : Ranking) (O : TotalOrder rank.good) (es : List Order) (s : Side) (ls : List Level) → Distinct (numbers es) → BestFirst rank s (prices ls) → All (Orderly es s) ls → parts_on ls ≤ 3 * length es
+pub few_parts : (rank : Ranking) (O : TotalOrder rank.good) (es : List Order) (s : Side) (ls : List Level) → Distinct (numbers es) → BestFirst rank s (prices ls) → AllByRecursion (Orderly es s) ls → parts_on ls ≤ 3 * length es
 few_parts rank O es s ls d o h =
-    let each : All (λ e. sum_of (order_at e.number) ls ≤ 3) es = All-weaker (Unique es) (λ e. sum_of (order_at e.number) ls ≤ 3) (λ e u. omega (arith, order_few es s e ls u (sorted_once rank O s (prices ls) o) h, side_le e.side s 3)) es (unique_each es d) in
+    let each : AllByRecursion (λ e. sum_of (order_at e.number) ls ≤ 3) es = All-weaker (Unique es) (λ e. sum_of (order_at e.number) ls ≤ 3) (λ e u. omega (arith, order_few es s e ls u (sorted_once rank O s (prices ls) o) h, side_le e.side s 3)) es (unique_each es d) in
     omega (arith, levels_counted es s ls h, each_few (λ e. sum_of (order_at e.number) ls) 3 es each)
 
 -- and so do both sides together
-pub few_in_all : (rank : Ranking) (O : TotalOrder rank.good) (es : List Order) (bs ss : List Level) → Distinct (numbers es) → BestFirst rank Buy (prices bs) → BestFirst rank Sell (prices ss) → All (Orderly es Buy) bs → All (Orderly es Sell) ss
+pub few_in_all : (rank : Ranking) (O : TotalOrder rank.good) (es : List Order) (bs ss : List Level) → Distinct (numbers es) → BestFirst rank Buy (prices bs) → BestFirst rank Sell (prices ss) → AllByRecursion (Orderly es Buy) bs → AllByRecursion (Orderly es Sell) ss
     → parts_on bs + parts_on ss ≤ 3 * length es
 few_in_all rank O es bs ss d ob os hb hs =
     let f : Order → ℕ = λ e. sum_of (order_at e.number) bs in
     let g : Order → ℕ = λ e. sum_of (order_at e.number) ss in
-    let each : All (λ e. f e + g e ≤ 3) es = All-weaker (Unique es) (λ e. f e + g e ≤ 3)
+    let each : AllByRecursion (λ e. f e + g e ≤ 3) es = All-weaker (Unique es) (λ e. f e + g e ≤ 3)
     (λ e u. omega (arith, order_few es Buy e bs u (sorted_once rank O Buy (prices bs) ob) hb, order_few es Sell e ss u (sorted_once rank O Sell (prices ss) os) hs, one_side e.side 3)) es (unique_each es d) in
     omega (arith, levels_counted es Buy bs hb, levels_counted es Sell ss hs, sum_both f g es, each_few (λ e. f e + g e) 3 es each)
 
@@ -165,19 +165,19 @@ someone es s l h o = at_least (λ e. order_at e.number l) es
     some [] (q ∷ qs) h = omega arith
     some (p ∷ ps) qs h = omega arith
 
-levels_named : (es : List Order) (s : Side) (ls : List Level) → All (λ l. holds l ≡ true) ls → All (Orderly es s) ls → length ls ≤ sum_of (λ e. sum_of (there e.number) ls) es
+levels_named : (es : List Order) (s : Side) (ls : List Level) → AllByRecursion (λ l. holds l ≡ true) ls → AllByRecursion (Orderly es s) ls → length ls ≤ sum_of (λ e. sum_of (there e.number) ls) es
 levels_named es s [] h o = omega (arith, no_sum es)
 levels_named es s (l ∷ ls) h o =
     omega (arith, someone es s l h.0 o.0, levels_named es s ls h.1 o.1, sum_both (λ e. there e.number l) (λ e. sum_of (there e.number) ls) es)
 
 -- a price an order at most
-pub few_levels : (rank : Ranking) (O : TotalOrder rank.good) (es : List Order) (bs ss : List Level) → Distinct (numbers es) → BestFirst rank Buy (prices bs) → BestFirst rank Sell (prices ss) → All (λ l. holds l ≡ true) bs → All (λ l. holds l ≡ true) ss → All (Orderly es Buy) bs → All (Orderly es Sell) ss
+pub few_levels : (rank : Ranking) (O : TotalOrder rank.good) (es : List Order) (bs ss : List Level) → Distinct (numbers es) → BestFirst rank Buy (prices bs) → BestFirst rank Sell (prices ss) → AllByRecursion (λ l. holds l ≡ true) bs → AllByRecursion (λ l. holds l ≡ true) ss → AllByRecursion (Orderly es Buy) bs → AllByRecursion (Orderly es Sell) ss
     → length bs + length ss ≤ length es
 few_levels rank O es bs ss d ob os fb fs hb hs =
     let f : Order → ℕ = λ e. sum_of (there e.number) bs in
     let g : Order → ℕ = λ e. sum_of (there e.number) ss in
     let one : (n : ℕ) (l : Level) → (there n l ≤ 1) × (order_at n l ≡ 0 → there n l ≡ 0) = λ n l. (omega arith, λ z. omega arith) in
-    let each : All (λ e. f e + g e ≤ 1) es = All-weaker (Unique es) (λ e. f e + g e ≤ 1)
+    let each : AllByRecursion (λ e. f e + g e ≤ 1) es = All-weaker (Unique es) (λ e. f e + g e ≤ 1)
     (λ e u. omega (arith, order_on es Buy e (there e.number) 1 bs u (sorted_once rank O Buy (prices bs) ob) hb (λ l o. one e.number l), order_on es Sell e (there e.number) 1 ss u (sorted_once rank O Sell (prices ss) os) hs (λ l o. one e.number l), one_side e.side 1)) es (unique_each es d) in
     omega (arith, levels_named es Buy bs fb hb, levels_named es Sell ss fs hs, sum_both f g es, each_few (λ e. f e + g e) 1 es each)
 
@@ -253,10 +253,10 @@ rows_few a (m ∷ ms) = go (eqb m.share 0) (rows_few a ms)
     go true ih = omega arith
     go false ih = omega arith
 
-pub rows_some : (a : ℕ) (ms : List Reached) → All (λ r. 0 < row_traded r) (rows_for a ms)
+pub rows_some : (a : ℕ) (ms : List Reached) → AllByRecursion (λ r. 0 < row_traded r) (rows_for a ms)
 rows_some a [] = tt
 rows_some a (m ∷ ms) = go (eqb m.share 0) refl (rows_some a ms)
   where
-    go : (t : Bool) → eqb m.share 0 ≡ t → All (λ r. 0 < row_traded r) (rows_for a ms) → All (λ r. 0 < row_traded r) (cond t (rows_for a ms) (Trade m.step m.order a m.price m.share ∷ rows_for a ms))
+    go : (t : Bool) → eqb m.share 0 ≡ t → AllByRecursion (λ r. 0 < row_traded r) (rows_for a ms) → AllByRecursion (λ r. 0 < row_traded r) (cond t (rows_for a ms) (Trade m.step m.order a m.price m.share ∷ rows_for a ms))
     go true e ih = ih
     go false e ih = (omega (arith, eqb-false m.share 0 e), ih)

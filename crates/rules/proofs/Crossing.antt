@@ -1,7 +1,7 @@
 -- Trading over a side is a chain of stages, best first. Assumes nothing.
 use Rattle.std.proofs.Common.{◌≡◌, ℕ, ◌+◌, ◌-◌, ◌<◌, ◌≤◌, Bool, true, false, cond, not, ◌&&◌, ◌||◌, List, [], ◌∷◌, ◌++◌, map, filter, sym, refl, ap, ◌∙◌, subst, inl, inr, append_assoc, arith}
 use mathlib.Core.Bool.{false≢true}
-use Rattle.std.specs.List.{AllByRecursion as All}
+use Rattle.std.specs.List.{AllByRecursion}
 use Rattle.std.proofs.lemmas.List.{map-append}
 use Rattle.std.proofs.ByRecursion.{All-append, All-weaker}
 use Rattle.allocation.specs.Rankings.{TotalOrder}
@@ -54,7 +54,7 @@ step_eq Step.Hidden Step.Hidden h = refl
 -- the steps of groups rise, and are the table's
 abbrev Rising : List Step → List Group → Type 0
 Rising ss [] = Unit {0}
-Rising ss (g ∷ gs) = All (λ h. place_of ss g.step < place_of ss h.step) gs × Rising ss gs
+Rising ss (g ∷ gs) = AllByRecursion (λ h. place_of ss g.step < place_of ss h.step) gs × Rising ss gs
 
 -- a step further back in the table
 apart : (s : Step) (ss : List Step) (x : Step) → has_step s ss ≡ false → has_step x ss ≡ true → same_step s x ≡ false
@@ -69,11 +69,11 @@ self Step.Setter = refl
 self Step.Displayed = refl
 self Step.Hidden = refl
 
-behind : (s : Step) (ss : List Step) (gs : List Group) → has_step s ss ≡ false → All (λ g. has_step g.step ss ≡ true) gs → All (λ g. place_of (s ∷ ss) s < place_of (s ∷ ss) g.step) gs
+behind : (s : Step) (ss : List Step) (gs : List Group) → has_step s ss ≡ false → AllByRecursion (λ g. has_step g.step ss ≡ true) gs → AllByRecursion (λ g. place_of (s ∷ ss) s < place_of (s ∷ ss) g.step) gs
 behind s ss gs h m =
     All-weaker {X = Group} (λ g. has_step g.step ss ≡ true) (λ g. place_of (s ∷ ss) s < place_of (s ∷ ss) g.step) (λ g k. rw (self s, apart s ss g.step h k) (omega arith)) gs m
 
-rising_more : (s : Step) (ss : List Step) (gs : List Group) → has_step s ss ≡ false → All (λ g. has_step g.step ss ≡ true) gs → Rising ss gs → Rising (s ∷ ss) gs
+rising_more : (s : Step) (ss : List Step) (gs : List Group) → has_step s ss ≡ false → AllByRecursion (λ g. has_step g.step ss ≡ true) gs → Rising ss gs → Rising (s ∷ ss) gs
 rising_more s ss [] h m r = tt
 rising_more s ss (g ∷ gs) h m r = (
   All-weaker {X = Group} (λ x. (has_step x.step ss ≡ true) × (place_of ss g.step < place_of ss x.step)) (λ x. place_of (s ∷ ss) g.step < place_of (s ∷ ss) x.step)
@@ -81,7 +81,7 @@ rising_more s ss (g ∷ gs) h m r = (
   rising_more s ss gs h m.1 r.1,
 )
 
-in_more : (s : Step) (ss : List Step) (gs : List Group) → All (λ g. has_step g.step ss ≡ true) gs → All (λ g. has_step g.step (s ∷ ss) ≡ true) gs
+in_more : (s : Step) (ss : List Step) (gs : List Group) → AllByRecursion (λ g. has_step g.step ss ≡ true) gs → AllByRecursion (λ g. has_step g.step (s ∷ ss) ≡ true) gs
 in_more s ss gs m = All-weaker (λ g. has_step g.step ss ≡ true) (λ g. has_step g.step (s ∷ ss) ≡ true) (λ g k. rw k (or_yes (same_step s g.step))) gs m
   where
     or_yes : (x : Bool) → (x || true) ≡ true
@@ -102,9 +102,9 @@ module _ (deal : Deal) (D : Lawful deal) (lot a : ℕ) where
     chain : Chain q groups r.left
     same_rows : r.rows ≡ rows_for a (reached groups)
     all_reached : map forget (reached groups) ≡ at_level t lot ss l
-    priced : All (λ g. g.price ≡ l.price) groups
+    priced : AllByRecursion (λ g. g.price ≡ l.price) groups
     rising : Rising ss groups
-    inside : All (λ g. has_step g.step ss ≡ true) groups
+    inside : AllByRecursion (λ g. has_step g.step ss ≡ true) groups
 
   -- one step before the others
   one_step_more : (t : Bool) (s : Step) (ss : List Step) (q q' : ℕ) (l : Level) (xs : List ℕ) (rs : List Row) (r : Traded Level) → has_step s ss ≡ false
@@ -185,11 +185,11 @@ module _ (rank : Ranking) (O : TotalOrder rank.good) (s : Side) where
     pub chain : Chain q groups left
     pub same_rows : rows ≡ rows_for a (reached groups)
     pub all_reached : map forget (reached groups) ≡ target
-    pub among : (v : ℕ) → All (λ w. better rank s v w ≡ true) vs → All (λ g. better rank s v g.price ≡ true) groups
+    pub among : (v : ℕ) → AllByRecursion (λ w. better rank s v w ≡ true) vs → AllByRecursion (λ g. better rank s v g.price ≡ true) groups
     pub ordered : Ordered rank O s table groups
 
   -- groups of one price, in the order of the table, and then groups of worse prices
-  join_ordered : (table : List Step) (v : ℕ) (gs hs : List Group) → All (λ g. g.price ≡ v) gs → Rising table gs → All (λ h. better rank s v h.price ≡ true) hs → Ordered rank O s table hs → Ordered rank O s table (gs ++ hs)
+  join_ordered : (table : List Step) (v : ℕ) (gs hs : List Group) → AllByRecursion (λ g. g.price ≡ v) gs → Rising table gs → AllByRecursion (λ h. better rank s v h.price ≡ true) hs → Ordered rank O s table hs → Ordered rank O s table (gs ++ hs)
   join_ordered table v [] hs p r w o = o
   join_ordered table v (g ∷ gs) hs p r w o = (
     All-append (Ahead rank O s table g) gs hs
@@ -200,7 +200,7 @@ module _ (rank : Ranking) (O : TotalOrder rank.good) (s : Side) where
   )
 
   module _ (deal : Deal) (D : Lawful deal) (lot a : ℕ) where
-    pub crossed : (table : List Step) → Fine table → (reaches : ℕ → Bool) (q : ℕ) (ls : List Level) → All (SoundLevel lot) ls → BestFirst rank s (prices ls)
+    pub crossed : (table : List Step) → Fine table → (reaches : ℕ → Bool) (q : ℕ) (ls : List Level) → AllByRecursion (SoundLevel lot) ls → BestFirst rank s (prices ls)
         → (let r : Traded (List Level) = trade_side deal lot a table reaches q ls in Crossed table a q (prices ls) (at_levels lot table (filter (λ l. reaches l.price) ls)) r.rows r.left)
     unfolding trade_side
     crossed table f reaches q [] g o = record { groups = []; chain = refl; same_rows = refl; all_reached = refl; among = λ v k. tt; ordered = tt }

@@ -1,7 +1,7 @@
 -- Every call keeps a book fit, and what an order had and brought is in the rows or rests. Assumes nothing.
 use Rattle.std.proofs.Common.{◌≡◌, ℕ, zero, ◌+◌, ◌-◌, ◌<◌, ◌≤◌, min, Bool, true, false, cond, not, ◌&&◌, ◌||◌, eqb, ltb, List, [], ◌∷◌, ◌++◌, map, filter, sym, refl, ap, ◌∙◌, subst, arith}
 use mathlib.Core.Bool.{false≢true}
-use Rattle.std.specs.List.{AllByRecursion as All}
+use Rattle.std.specs.List.{AllByRecursion}
 use Rattle.std.proofs.lemmas.List.{map_push}
 use Rattle.std.proofs.lemmas.Bool.Decides.{nat_tests}
 use Rattle.std.proofs.lemmas.Bool.{or_parts, not-false, eqb-true, eqb-false}
@@ -36,7 +36,7 @@ shrunk lot b c f s o l r =
     record {
       pos = f.pos;
       sides = s;
-      displays = subst (λ es. All Displays es) (sym o) f.displays;
+      displays = subst (λ es. AllByRecursion Displays es) (sym o) f.displays;
       covered = λ n h. subst (λ es. has n (numbers es) ≡ true) (sym o) (f.covered n (omega (arith, r n)));
       once = subst (λ es. Distinct (numbers es)) (sym o) f.once;
       fresh = λ n h. (let a = f.fresh n (omega arith) in omega (arith, r n));
@@ -49,7 +49,7 @@ grown lot e b c f d new s o l r =
     record {
       pos = f.pos;
       sides = s;
-      displays = subst (λ es. All Displays es) (sym o) (All-push Displays b.orders e f.displays d);
+      displays = subst (λ es. AllByRecursion Displays es) (sym o) (All-push Displays b.orders e f.displays d);
       covered = λ n h. subst (λ es. has n (numbers es) ≡ true) (sym o) (rw (map_push (λ e. e.number) b.orders e) (has_push n e.number (numbers b.orders) ∙ go n h (eqb e.number n) refl));
       once = subst (λ es. Distinct (numbers es)) (sym o) (rw (map_push (λ e. e.number) b.orders e) (distinct_push e.number (numbers b.orders) (f.unlisted e.number new) f.once));
       fresh = λ n h. (let a = f.fresh n (omega arith) in let q = r n in grind (arith, nat_tests));
@@ -178,7 +178,7 @@ pub unmark_claims : (ps : List Part) → claims (map (λ p. part p.order p.parti
 unmark_claims [] = refl
 unmark_claims (p ∷ ps) = ap (λ cs. claim p.participant p.quantity ∷ cs) (unmark_claims ps)
 
-pub unmark_positive : (ps : List Part) → All (λ p. 0 < p.quantity) ps → All (λ p. 0 < p.quantity) (map (λ p. part p.order p.participant p.quantity false) ps)
+pub unmark_positive : (ps : List Part) → AllByRecursion (λ p. 0 < p.quantity) ps → AllByRecursion (λ p. 0 < p.quantity) (map (λ p. part p.order p.participant p.quantity false) ps)
 unmark_positive [] h = tt
 unmark_positive (p ∷ ps) h = (h.0, unmark_positive ps h.1)
 
@@ -186,7 +186,7 @@ pub unmark_of : (n : ℕ) (ps : List Part) → of_order n (map (λ p. part p.ord
 unmark_of n [] = refl
 unmark_of n (p ∷ ps) = omega (arith, unmark_of n ps)
 
-pub unmarked_good : (lot : ℕ) (ls : List Level) → All (SoundLevel lot) ls → All (SoundLevel lot) (unmarked ls)
+pub unmarked_good : (lot : ℕ) (ls : List Level) → AllByRecursion (SoundLevel lot) ls → AllByRecursion (SoundLevel lot) (unmarked ls)
 unmarked_good lot [] h = tt
 unmarked_good lot (l ∷ ls) h =
     ((record { positive = unmark_positive l.shown.parts h.0.0.positive; seated = subst (λ cs. Seated lot l.shown.wheel (λ p. interest p cs)) (sym (unmark_claims l.shown.parts)) h.0.0.seated }, h.0.1), unmarked_good lot ls h.1)

@@ -1,7 +1,7 @@
 -- Where something is left over, every price in reach is traded out. Assumes nothing.
 use Rattle.std.proofs.Common.{◌≡◌, ℕ, zero, suc, ◌-◌, ◌<◌, ◌≤◌, Bool, true, false, ◌||◌, leb, List, [], ◌∷◌, sym, refl, ap, subst, arith}
 use mathlib.Core.Bool.{false≢true}
-use Rattle.std.specs.List.{AllByRecursion as All}
+use Rattle.std.specs.List.{AllByRecursion}
 use Rattle.std.proofs.lemmas.Bool.{le-leb}
 use Rattle.allocation.specs.Wheels.{Wheel}
 use Rattle.allocation.specs.Dealings.{sum, Deal, Lawful, Dealt}
@@ -21,7 +21,7 @@ use Rattle.rules.proofs.Trades.{fair_shares, with_good}
 use Rattle.rules.proofs.Stages.{amount, Stage, deal_stage}
 use Rattle.rules.proofs.Walks.{after_step, each_price, Held}
 
-no_amount : (ps : List Part) → All (λ p. 0 < p.quantity) ps → amount ps ≡ 0 → ps ≡ []
+no_amount : (ps : List Part) → AllByRecursion (λ p. 0 < p.quantity) ps → amount ps ≡ 0 → ps ≡ []
 no_amount [] pos h = refl
 no_amount (p ∷ ps) pos h = let no_way : ⊥ = omega (arith, pos.0) in absurd no_way
 
@@ -31,7 +31,7 @@ at_most_amount [] (x ∷ xs) h = absurd h
 at_most_amount (p ∷ ps) (x ∷ xs) h = omega (arith, h.0, at_most_amount ps xs h.1)
 
 -- parts that lose all they have are gone
-all_lost : (ps : List Part) (xs : List ℕ) → All (λ p. 0 < p.quantity) ps → AtMost xs ps → sum xs ≡ amount ps → lowered ps xs ≡ []
+all_lost : (ps : List Part) (xs : List ℕ) → AllByRecursion (λ p. 0 < p.quantity) ps → AtMost xs ps → sum xs ≡ amount ps → lowered ps xs ≡ []
 all_lost [] xs pos h e = refl
 all_lost (p ∷ ps) [] pos h e = no_amount (p ∷ ps) pos (sym e)
 all_lost (p ∷ ps) (x ∷ xs) pos h e =
@@ -111,20 +111,20 @@ module _ (deal : Deal) (D : Lawful deal) (lot a : ℕ) where
   side_left ss reaches q (l ∷ ls) = omega (arith, reached_left ss (reaches l.price) q l, side_left ss reaches (trade_reached deal lot a ss (reaches l.price) q l).left ls)
 
   -- a price with a part left is out of reach
-  pub side_emptied : (ss : List Step) → has_step Step.Displayed ss ≡ true → has_step Step.Hidden ss ≡ true → (reaches : ℕ → Bool) (q : ℕ) (ls : List Level) → All (SoundLevel lot) ls
-      → 0 < (trade_side deal lot a ss reaches q ls).left → All (Held (λ w. reaches w ≡ false)) (trade_side deal lot a ss reaches q ls).rest
+  pub side_emptied : (ss : List Step) → has_step Step.Displayed ss ≡ true → has_step Step.Hidden ss ≡ true → (reaches : ℕ → Bool) (q : ℕ) (ls : List Level) → AllByRecursion (SoundLevel lot) ls
+      → 0 < (trade_side deal lot a ss reaches q ls).left → AllByRecursion (Held (λ w. reaches w ≡ false)) (trade_side deal lot a ss reaches q ls).rest
   unfolding trade_side
   side_emptied ss hd hh reaches q [] g some = tt
   side_emptied ss hd hh reaches q (l ∷ ls) g some =
       let r : Traded Level = trade_reached deal lot a ss (reaches l.price) q l in
       (here (reaches l.price) refl (omega (arith, side_left ss reaches r.left ls)), side_emptied ss hd hh reaches r.left ls g.1 some)
     where
-      everyone : (X : Type 0) (ps : List Part) → X → All (λ (_ : Part). X) ps
+      everyone : (X : Type 0) (ps : List Part) → X → AllByRecursion (λ (_ : Part). X) ps
       everyone X [] x = tt
       everyone X (p ∷ ps) x = (x, everyone X ps x)
 
-      nobody : (X : Type 0) (ps : List Part) → ps ≡ [] → All (λ (_ : Part). X) ps
-      nobody X ps e = subst (λ ps. All (λ (_ : Part). X) ps) (sym e) tt
+      nobody : (X : Type 0) (ps : List Part) → ps ≡ [] → AllByRecursion (λ (_ : Part). X) ps
+      nobody X ps e = subst (λ ps. AllByRecursion (λ (_ : Part). X) ps) (sym e) tt
 
       here : (t : Bool) → reaches l.price ≡ t → 0 < (trade_reached deal lot a ss t q l).left → Held (λ w. reaches w ≡ false) (trade_reached deal lot a ss t q l).rest
       here true e left = (

@@ -1,6 +1,6 @@
 -- Every call keeps a book fit, and what an order had is in the rows or rests. Assumes nothing.
 use Rattle.std.proofs.Common.{◌≡◌, ℕ, ◌+◌, ◌-◌, ◌<◌, min, Bool, true, false, cond, eqb, List, [], ◌∷◌, fold, sym, refl, ap, ◌∙◌, subst, arith}
-use Rattle.std.specs.List.{AllByRecursion as All}
+use Rattle.std.specs.List.{AllByRecursion}
 use Rattle.std.proofs.lemmas.Bool.{eqb-true, eqb-false}
 use Rattle.allocation.specs.ByTime.{less}
 use Rattle.allocation.specs.Dealings.{Deal, Lawful}
@@ -26,16 +26,16 @@ use Rattle.rules.proofs.Trades.{as_resting, Even, trade_side_good, trade_side_ev
 
 pub record Sides (lot : ℕ) (b : Book) : Type 0 where
   pub is : b.lot ≡ lot
-  pub buys : All (SoundLevel lot) b.buys
-  pub sells : All (SoundLevel lot) b.sells
+  pub buys : AllByRecursion (SoundLevel lot) b.buys
+  pub sells : AllByRecursion (SoundLevel lot) b.sells
 
 -- ## One side
 
-pub side_good : (lot : ℕ) (s : Side) (b : Book) → Sides lot b → All (SoundLevel lot) (side s b)
+pub side_good : (lot : ℕ) (s : Side) (b : Book) → Sides lot b → AllByRecursion (SoundLevel lot) (side s b)
 side_good lot Buy b f = f.buys
 side_good lot Sell b f = f.sells
 
-pub side_fit : (lot : ℕ) (s : Side) (ls : List Level) (b : Book) → Sides lot b → All (SoundLevel lot) ls → Sides lot (with_side s ls b)
+pub side_fit : (lot : ℕ) (s : Side) (ls : List Level) (b : Book) → Sides lot b → AllByRecursion (SoundLevel lot) ls → Sides lot (with_side s ls b)
 side_fit lot Buy ls b f g = record { is = f.is; buys = g; sells = f.sells }
 side_fit lot Sell ls b f g = record { is = f.is; buys = f.buys; sells = g }
 
@@ -116,7 +116,7 @@ replenish_order_same rank b e = go (is_reserve e.kind)
     go true = record { orders = refl; last = refl; steps = refl }
     go false = record { orders = refl; last = refl; steps = refl }
 
-pub all_renewed : (rank : Ranking) (lot : ℕ) (b : Book) (es : List Order) → 0 < lot → All Displays es → Sides lot b → Sides lot (fold (replenish_order rank) b es)
+pub all_renewed : (rank : Ranking) (lot : ℕ) (b : Book) (es : List Order) → 0 < lot → AllByRecursion Displays es → Sides lot b → Sides lot (fold (replenish_order rank) b es)
 all_renewed rank lot b [] pos ok fit = fit
 all_renewed rank lot b (e ∷ es) pos ok fit = all_renewed rank lot (replenish_order rank b e) es pos ok.1 (replenish_order_fit rank lot b e pos ok.0 fit)
 
@@ -183,7 +183,7 @@ place_rest rank Kind.Market e n m b r = absurd (mathlib.Core.Bool.false≢true r
 pub record Fit (lot : ℕ) (b : Book) : Type 0 where
   pub pos : 0 < lot
   pub sides : Sides lot b
-  pub displays : All Displays b.orders
+  pub displays : AllByRecursion Displays b.orders
   pub covered : (n : ℕ) → 0 < resting n b → has n (numbers b.orders) ≡ true
   pub once : Distinct (numbers b.orders)
   pub fresh : (n : ℕ) → b.last < n → resting n b ≡ 0
@@ -205,8 +205,8 @@ module _ (rank : Ranking) (deal : Deal) (D : Lawful deal) (lot : ℕ) where
       let f : Sides lot c = record { is = fit.sides.is; buys = fit.sides.buys; sells = fit.sides.sells } in
       let reach : ℕ → Bool = in_reach rank c e in
       let r : Traded (List Level) = trade_side deal b.lot e.number b.steps reach e.quantity (side s b) in
-      let g : All (SoundLevel lot) r.rest =
-      subst (λ k. All (SoundLevel lot) (trade_side deal k e.number b.steps reach e.quantity (side s b)).rest) (sym fit.sides.is)
+      let g : AllByRecursion (SoundLevel lot) r.rest =
+      subst (λ k. AllByRecursion (SoundLevel lot) (trade_side deal k e.number b.steps reach e.quantity (side s b)).rest) (sym fit.sides.is)
       (trade_side_good deal D lot e.number b.steps reach e.quantity (side s b) (side_good lot s b fit.sides)) in
       let t : Book = with_side s r.rest c in
       let ev : (n : ℕ) → Even n e.number (of_side n (side s b)) e.quantity r.rows (of_side n r.rest) r.left = λ n.

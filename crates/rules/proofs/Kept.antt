@@ -1,6 +1,6 @@
 -- Every call keeps a sound book sound. Assumes nothing.
 use Rattle.std.proofs.Common.{◌≡◌, ℕ, ◌-◌, ◌<◌, ◌≤◌, Bool, true, false, eqb, List, [], ◌∷◌, map, Some, None, Option, sym, refl, ap, subst, arith}
-use Rattle.std.specs.List.{AllByRecursion as All}
+use Rattle.std.specs.List.{AllByRecursion}
 use Rattle.std.proofs.lemmas.Bool.{eqb-false}
 use Rattle.std.proofs.ByRecursion.{All-weaker}
 use Rattle.allocation.specs.Rankings.{TotalOrder}
@@ -48,8 +48,8 @@ module _ (rank : Ranking) (O : TotalOrder rank.good) (deal : Deal) (D : Lawful d
 
     -- what a change of each level does to a book
     changed : (x : Book) → Fit b.lot x → Ranked rank O x → x.orders ≡ b.orders → b.last ≤ x.last → x.steps ≡ b.steps → ((n : ℕ) → resting n x ≤ resting n b)
-        → ((t : Side) → All (Orderly b.orders t) (side t b) → All (Orderly b.orders t) (side t x)) → ((t : Side) (P : ℕ → Type 0) → All (Held P) (side t b) → All (Held P) (side t x))
-        → ((t : Side) (n : ℕ) → All (λ l. runs_low b.lot n l ≡ false) (side t b) → All (λ l. runs_low b.lot n l ≡ false) (side t x)) → Upkept rank O b.lot x
+        → ((t : Side) → AllByRecursion (Orderly b.orders t) (side t b) → AllByRecursion (Orderly b.orders t) (side t x)) → ((t : Side) (P : ℕ → Type 0) → AllByRecursion (Held P) (side t b) → AllByRecursion (Held P) (side t x))
+        → ((t : Side) (n : ℕ) → AllByRecursion (λ l. runs_low b.lot n l ≡ false) (side t b) → AllByRecursion (λ l. runs_low b.lot n l ≡ false) (side t x)) → Upkept rank O b.lot x
     changed x f k o l t le orderly held low =
         upkept_less rank O b.lot b x refl s f k o l t le (orderly Buy s.buys.orderly, orderly Sell s.sells.orderly)
         (apart_changed rank b.buys x.buys b.sells x.sells (held Buy) (held Sell) apart_before)
@@ -63,15 +63,15 @@ module _ (rank : Ranking) (O : TotalOrder rank.good) (deal : Deal) (D : Lawful d
     unfolding unmark
     halted f k = changed (with_sides (unmarked b.buys) (unmarked b.sells) b) f k refl (omega arith) refl (λ n. omega (arith, unmarked_of n b.buys, unmarked_of n b.sells)) orderly held low
       where
-        orderly : (t : Side) → All (Orderly b.orders t) (side t b) → All (Orderly b.orders t) (side t (with_sides (unmarked b.buys) (unmarked b.sells) b))
+        orderly : (t : Side) → AllByRecursion (Orderly b.orders t) (side t b) → AllByRecursion (Orderly b.orders t) (side t (with_sides (unmarked b.buys) (unmarked b.sells) b))
         orderly Buy h = each_mapped (Orderly b.orders Buy) unmark (λ l o. (orderly_unmarked b.orders Buy l.price 1 2 l.shown.parts o.0, o.1)) b.buys h
         orderly Sell h = each_mapped (Orderly b.orders Sell) unmark (λ l o. (orderly_unmarked b.orders Sell l.price 1 2 l.shown.parts o.0, o.1)) b.sells h
 
-        held : (t : Side) (P : ℕ → Type 0) → All (Held P) (side t b) → All (Held P) (side t (with_sides (unmarked b.buys) (unmarked b.sells) b))
+        held : (t : Side) (P : ℕ → Type 0) → AllByRecursion (Held P) (side t b) → AllByRecursion (Held P) (side t (with_sides (unmarked b.buys) (unmarked b.sells) b))
         held Buy P h = each_mapped (Held P) unmark (held_unmarked P) b.buys h
         held Sell P h = each_mapped (Held P) unmark (held_unmarked P) b.sells h
 
-        low : (t : Side) (n : ℕ) → All (λ l. runs_low b.lot n l ≡ false) (side t b) → All (λ l. runs_low b.lot n l ≡ false) (side t (with_sides (unmarked b.buys) (unmarked b.sells) b))
+        low : (t : Side) (n : ℕ) → AllByRecursion (λ l. runs_low b.lot n l ≡ false) (side t b) → AllByRecursion (λ l. runs_low b.lot n l ≡ false) (side t (with_sides (unmarked b.buys) (unmarked b.sells) b))
         low Buy n h = each_mapped (λ l. runs_low b.lot n l ≡ false) unmark (λ l i. unmarked_low b.lot n l i) b.buys h
         low Sell n h = each_mapped (λ l. runs_low b.lot n l ≡ false) unmark (λ l i. unmarked_low b.lot n l i) b.sells h
 
@@ -79,22 +79,22 @@ module _ (rank : Ranking) (O : TotalOrder rank.good) (deal : Deal) (D : Lawful d
     unfolding take_off
     taken_off n m f k = changed (take_off n m b) f k refl (omega arith) refl (λ j. omega (arith, take_off_rest j n m b)) orderly held low
       where
-        orderly : (t : Side) → All (Orderly b.orders t) (side t b) → All (Orderly b.orders t) (side t (take_off n m b))
+        orderly : (t : Side) → AllByRecursion (Orderly b.orders t) (side t b) → AllByRecursion (Orderly b.orders t) (side t (take_off n m b))
         orderly Buy h = each_taken (Orderly b.orders Buy) (orderly_taken b.orders Buy) n m b.buys h
         orderly Sell h = each_taken (Orderly b.orders Sell) (orderly_taken b.orders Sell) n (m - of_side n b.buys) b.sells h
 
-        held : (t : Side) (P : ℕ → Type 0) → All (Held P) (side t b) → All (Held P) (side t (take_off n m b))
+        held : (t : Side) (P : ℕ → Type 0) → AllByRecursion (Held P) (side t b) → AllByRecursion (Held P) (side t (take_off n m b))
         held Buy P h = each_taken (Held P) (held_taken P) n m b.buys h
         held Sell P h = each_taken (Held P) (held_taken P) n (m - of_side n b.buys) b.sells h
 
-        low : (t : Side) (j : ℕ) → All (λ l. runs_low b.lot j l ≡ false) (side t b) → All (λ l. runs_low b.lot j l ≡ false) (side t (take_off n m b))
+        low : (t : Side) (j : ℕ) → AllByRecursion (λ l. runs_low b.lot j l ≡ false) (side t b) → AllByRecursion (λ l. runs_low b.lot j l ≡ false) (side t (take_off n m b))
         low Buy j h = each_taken (λ l. runs_low b.lot j l ≡ false) (λ n m l i. taken_not_low b.lot j n m l i) n m b.buys h
         low Sell j h = each_taken (λ l. runs_low b.lot j l ≡ false) (λ n m l i. taken_not_low b.lot j n m l i) n (m - of_side n b.buys) b.sells h
 
     -- nothing that rests changes
     as_it_was : (x : Book) → Fit b.lot x → Ranked rank O x → x.orders ≡ b.orders → b.last ≤ x.last → x.steps ≡ b.steps → x.buys ≡ b.buys → x.sells ≡ b.sells → Upkept rank O b.lot x
     as_it_was x f k o l t eb es =
-        changed x f k o l t (λ n. omega (arith, ap (of_side n) eb, ap (of_side n) es)) (λ u h. same u (All (Orderly b.orders u)) h) (λ u P h. same u (All (Held P)) h) (λ u n h. same u (All (λ l. runs_low b.lot n l ≡ false)) h)
+        changed x f k o l t (λ n. omega (arith, ap (of_side n) eb, ap (of_side n) es)) (λ u h. same u (AllByRecursion (Orderly b.orders u)) h) (λ u P h. same u (AllByRecursion (Held P)) h) (λ u n h. same u (AllByRecursion (λ l. runs_low b.lot n l ≡ false)) h)
       where
         same : (u : Side) (Q : List Level → Type 0) → Q (side u b) → Q (side u x)
         same Buy Q h = subst Q (sym eb) h
@@ -104,7 +104,7 @@ module _ (rank : Ranking) (O : TotalOrder rank.good) (deal : Deal) (D : Lawful d
     closed : Fit b.lot (with_sides [] [] b) → Ranked rank O (with_sides [] [] b) → Upkept rank O b.lot (with_sides [] [] b)
     closed f k = changed (with_sides [] [] b) f k refl (omega arith) refl (λ n. omega arith) (λ u h. none_left u (Orderly b.orders u)) (λ u P h. none_left u (Held P)) (λ u n h. none_left u (λ l. runs_low b.lot n l ≡ false))
       where
-        none_left : (u : Side) (Q : Level → Type 0) → All Q (side u (with_sides [] [] b))
+        none_left : (u : Side) (Q : Level → Type 0) → AllByRecursion Q (side u (with_sides [] [] b))
         none_left Buy Q = tt
         none_left Sell Q = tt
 

@@ -1,6 +1,6 @@
 -- The lead law. Assumes nothing.
 use Rattle.std.proofs.Common.{◌≡◌, ℕ, ◌+◌, ◌-◌, ◌<◌, ◌≤◌, Bool, true, false, cond, eqb, ◌⊎◌, List, [], ◌∷◌, Some, None, filter, Option, refl, ap, ◌∙◌, subst, inl, inr, arith}
-use Rattle.std.specs.List.{AllByRecursion as All}
+use Rattle.std.specs.List.{AllByRecursion}
 use Rattle.std.proofs.lemmas.Bool.{cases_eq}
 use Rattle.allocation.specs.Rankings.{TotalOrder}
 use Rattle.allocation.specs.Dealings.{parity}
@@ -160,7 +160,7 @@ module _ (rank : Ranking) (O : TotalOrder rank.good) (lot : ℕ) where
           rw to main
       go (Some _) some after = omega arith
 
-  run_lead : (p r : ℕ) → (p ≡ r → ⊥) → (w : Spot) (b : Book) (asks : List Ask) → Kept rank O lot b → All (Keeps w p) (run rank parity b asks)
+  run_lead : (p r : ℕ) → (p ≡ r → ⊥) → (w : Spot) (b : Book) (asks : List Ask) → Kept rank O lot b → AllByRecursion (Keeps w p) (run rank parity b asks)
       → (let past : List Event = run rank parity b asks in
       sum_of (dealt_to w r) past + slack_of p r lot (queue_at w b).wheel ≤ sum_of (dealt_to w p) past + slack_of p r lot (queue_at w (final b past)).wheel)
   run_lead p r ne w b [] k h = omega arith

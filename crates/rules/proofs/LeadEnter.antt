@@ -1,7 +1,7 @@
 -- The lead over an enter. Assumes nothing.
 use Rattle.std.proofs.Common.{◌≡◌, ℕ, ◌+◌, ◌-◌, ◌<◌, ◌≤◌, min, Bool, true, false, cond, not, ◌&&◌, eqb, List, [], ◌∷◌, ◌++◌, fold, sym, refl, ap, ◌∙◌, subst, arith}
 use mathlib.Core.Bool.{false≢true}
-use Rattle.std.specs.List.{AllByRecursion as All}
+use Rattle.std.specs.List.{AllByRecursion}
 use Rattle.std.proofs.lemmas.Bool.{eq-eqb}
 use Rattle.allocation.specs.Rankings.{TotalOrder}
 use Rattle.allocation.specs.ByTime.{less}
@@ -99,7 +99,7 @@ module _ (rank : Ranking) (O : TotalOrder rank.good) (lot : ℕ) where
   pub ranked : (b : Book) → Kept b → Ranked rank O b
   ranked b k = sound_ranked rank O b k.sound
 
-  pub mine : (s : Side) (b : Book) → Kept b → All (MineAt b.orders) (side s b)
+  pub mine : (s : Side) (b : Book) → Kept b → AllByRecursion (MineAt b.orders) (side s b)
   mine s b k = orderly_mine b.orders s (side s b) (fit b k).once (orderly_side b.orders s b (k.sound.buys.orderly, k.sound.sells.orderly))
 
   pub once_at : (s : Side) (b : Book) → Ranked rank O b → Distinct (prices (side s b))

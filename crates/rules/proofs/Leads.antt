@@ -1,6 +1,6 @@
 -- What a change of a queue does to a lead on its wheel. Assumes nothing.
 use Rattle.std.proofs.Common.{◌≡◌, ℕ, zero, suc, ◌+◌, ◌-◌, ◌<◌, ◌≤◌, Bool, true, false, cond, eqb, ltb, List, [], ◌∷◌, ◌++◌, map, sym, refl, ap, ◌∙◌, subst, arith}
-use Rattle.std.specs.List.{AllByRecursion as All}
+use Rattle.std.specs.List.{AllByRecursion}
 use Rattle.std.proofs.lemmas.Bool.{eqb-true, or_parts, lt-ltb}
 use Rattle.std.proofs.lemmas.Bool.Decides.{nat_tests}
 use Rattle.allocation.specs.Wheels.{Wheel}
@@ -58,7 +58,7 @@ interest_got q [] xs h = refl
 interest_got q (p ∷ ps) [] h = omega arith
 interest_got q (p ∷ ps) (x ∷ xs) h = let ih = interest_got q ps xs h.1 in let h0 = h.0 in grind (arith, nat_tests)
 
-rows_got : (on : Step → Bool) (es : List Order) (q : ℕ) (s : Step) (a v : ℕ) (ps : List Part) (xs : List ℕ) → All (Mine es) ps → sum_of (gained on v es q) (rows_of s a v ps xs) ≡ cond (on s) (got q ps xs) 0
+rows_got : (on : Step → Bool) (es : List Order) (q : ℕ) (s : Step) (a v : ℕ) (ps : List Part) (xs : List ℕ) → AllByRecursion (Mine es) ps → sum_of (gained on v es q) (rows_of s a v ps xs) ≡ cond (on s) (got q ps xs) 0
 rows_got on es q s a v [] xs m = grind arith
 rows_got on es q s a v (p ∷ ps) [] m = grind arith
 rows_got on es q s a v (p ∷ ps) (x ∷ xs) m = let ih = rows_got on es q s a v ps xs m.1 in let o = m.0 q in grind (arith, nat_tests)
@@ -69,7 +69,7 @@ rows_elsewhere on es q s a v w (p ∷ ps) [] m = refl
 rows_elsewhere on es q s a v w (p ∷ ps) (x ∷ xs) m = let ih = rows_elsewhere on es q s a v w ps xs m in grind arith
 
 abbrev pub MineAt : List Order → Level → Type 0
-MineAt es l = All (Mine es) l.shown.parts × All (Mine es) l.hidden.parts
+MineAt es l = AllByRecursion (Mine es) l.shown.parts × AllByRecursion (Mine es) l.hidden.parts
 
 pub mine_steady : (es : List Order) → Steady (Mine es)
 mine_steady es x y o h m q = ap (owns q es) (sym o) ∙ m q ∙ ap (eqb q) h
@@ -135,7 +135,7 @@ module _ (p r : ℕ) (ne : p ≡ r → ⊥) (lot : ℕ) where
   step_mine es q Step.Displayed l m = (all_lowered (Mine es) (mine_steady es) l.shown.parts (step_shares parity lot q Step.Displayed l).shares m.0, m.1)
   step_mine es q Step.Hidden l m = (m.0, all_lowered (Mine es) (mine_steady es) l.hidden.parts (step_shares parity lot q Step.Hidden l).shares m.1)
 
-  queue_mine : (es : List Order) (s : Step) (l : Level) → MineAt es l → All (Mine es) (queue_of s l).parts
+  queue_mine : (es : List Order) (s : Step) (l : Level) → MineAt es l → AllByRecursion (Mine es) (queue_of s l).parts
   queue_mine es Step.Setter l m = m.0
   queue_mine es Step.Displayed l m = m.0
   queue_mine es Step.Hidden l m = m.1
@@ -200,7 +200,7 @@ module _ (p r : ℕ) (ne : p ≡ r → ⊥) (lot : ℕ) where
       let k = or_parts (eqb l.price v) (has v (prices ls)) h in
       omega (arith, sum_of_append (gained on v es n) x.rows (trade_side parity lot a ss reaches x.left ls).rows, elsewhere on es n a v ss (reaches l.price) q l k.0, trade_side_elsewhere on es n a v ss reaches x.left ls k.1)
 
-  pub trade_side_glide : (cat : Category) (es : List Order) (a v : ℕ) (ss : List Step) (reaches : ℕ → Bool) (q : ℕ) (ls : List Level) → All (SoundLevel lot) ls → All (MineAt es) ls → Distinct (prices ls)
+  pub trade_side_glide : (cat : Category) (es : List Order) (a v : ℕ) (ss : List Step) (reaches : ℕ → Bool) (q : ℕ) (ls : List Level) → AllByRecursion (SoundLevel lot) ls → AllByRecursion (MineAt es) ls → Distinct (prices ls)
       → (let x : Traded (List Level) = trade_side parity lot a ss reaches q ls in Glides cat es v (level_at v ls) (level_at v x.rest) x.rows)
   unfolding trade_side
   trade_side_glide cat es a v ss reaches q [] g m o = record { less = λ n. omega arith; lead = λ k. omega arith }

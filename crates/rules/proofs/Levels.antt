@@ -1,6 +1,6 @@
 -- A side stays good, and what an order has on it: taking off, a change at one price, reserve. Assumes nothing.
 use Rattle.std.proofs.Common.{◌≡◌, ℕ, ◌+◌, ◌-◌, ◌<◌, min, Bool, true, false, cond, ◌&&◌, eqb, ltb, List, [], ◌∷◌, refl, arith}
-use Rattle.std.specs.List.{AllByRecursion as All}
+use Rattle.std.specs.List.{AllByRecursion}
 use Rattle.std.proofs.lemmas.Bool.{ltb-true, and_parts}
 use Rattle.std.proofs.lemmas.Bool.Decides.{nat_tests}
 use Rattle.allocation.specs.ByTime.{shares_in_order}
@@ -20,7 +20,7 @@ use Rattle.allocation.proofs.InOrder.{in_order_under, sum_in_order}
 use Rattle.rules.proofs.Queues.{last_under, sum_pieces, lose_sound, lose_of, put_sound, put_of, take_off_level_good, take_off_level_of}
 use Rattle.allocation.specs.Seating.{seated_same}
 
-pub take_off_side_good : (lot n m : ℕ) (ls : List Level) → All (SoundLevel lot) ls → All (SoundLevel lot) (take_off_side n m ls)
+pub take_off_side_good : (lot n m : ℕ) (ls : List Level) → AllByRecursion (SoundLevel lot) ls → AllByRecursion (SoundLevel lot) (take_off_side n m ls)
 unfolding take_off_side
 take_off_side_good lot n m [] h = tt
 take_off_side_good lot n m (l ∷ ls) h = (take_off_level_good lot n m l h.0, take_off_side_good lot n (m - of_level n l) ls h.1)
@@ -35,12 +35,12 @@ take_off_side_of k n m (l ∷ ls) = let a = take_off_level_of k n m l in let b =
 pub empty_good : (lot v : ℕ) → 0 < lot → SoundLevel lot (nothing_at v)
 empty_good lot v pos = (record { positive = tt; seated = nobody_seated lot pos }, record { positive = tt; seated = nobody_seated lot pos })
 
-pub on_price_good : (rank : Ranking) (s : Side) (lot v : ℕ) (f : Level → Level) (ls : List Level) → 0 < lot → ((l : Level) → SoundLevel lot l → SoundLevel lot (f l)) → All (SoundLevel lot) ls → All (SoundLevel lot) (on_price rank s v f ls)
+pub on_price_good : (rank : Ranking) (s : Side) (lot v : ℕ) (f : Level → Level) (ls : List Level) → 0 < lot → ((l : Level) → SoundLevel lot l → SoundLevel lot (f l)) → AllByRecursion (SoundLevel lot) ls → AllByRecursion (SoundLevel lot) (on_price rank s v f ls)
 unfolding on_price
 on_price_good rank s lot v f [] pos step h = (step (nothing_at v) (empty_good lot v pos), tt)
 on_price_good rank s lot v f (l ∷ ls) pos step h = go (eqb l.price v) (good rank s v l.price) (on_price_good rank s lot v f ls pos step h.1)
   where
-    go : (t u : Bool) → All (SoundLevel lot) (on_price rank s v f ls) → All (SoundLevel lot) (cond t (f l ∷ ls) (cond u (f (nothing_at v) ∷ l ∷ ls) (l ∷ on_price rank s v f ls)))
+    go : (t u : Bool) → AllByRecursion (SoundLevel lot) (on_price rank s v f ls) → AllByRecursion (SoundLevel lot) (cond t (f l ∷ ls) (cond u (f (nothing_at v) ∷ l ∷ ls) (l ∷ on_price rank s v f ls)))
     go true u ih = (step l h.0, h.1)
     go false true ih = (step (nothing_at v) (empty_good lot v pos), h)
     go false false ih = (h.0, ih)
@@ -58,16 +58,16 @@ on_price_of rank s n d v f (l ∷ ls) step = go (eqb l.price v) (good rank s v l
 
 -- ## Kind.Reserve
 
-raised_positive : (n m : ℕ) (ps : List Part) → All (λ p. 0 < p.quantity) ps → All (λ p. 0 < p.quantity) (raised n m ps)
+raised_positive : (n m : ℕ) (ps : List Part) → AllByRecursion (λ p. 0 < p.quantity) ps → AllByRecursion (λ p. 0 < p.quantity) (raised n m ps)
 raised_positive n m [] h = tt
 raised_positive n m (p ∷ ps) h = go (eqb p.order n) (raised_positive n m ps h.1)
   where
-    go : (t : Bool) → All (λ p. 0 < p.quantity) (raised n m ps) → All (λ p. 0 < p.quantity) (cond t (part p.order p.participant (p.quantity + m) p.marked ∷ ps) (p ∷ raised n m ps))
+    go : (t : Bool) → AllByRecursion (λ p. 0 < p.quantity) (raised n m ps) → AllByRecursion (λ p. 0 < p.quantity) (cond t (part p.order p.participant (p.quantity + m) p.marked ∷ ps) (p ∷ raised n m ps))
     go true ih = (omega (arith, h.0), h.1)
     go false ih = (h.0, ih)
 
 -- nobody comes or goes
-pub raised_interest : (q n m : ℕ) (ps : List Part) → All (λ p. 0 < p.quantity) ps → min 1 (interest q (claims (raised n m ps))) ≡ min 1 (interest q (claims ps))
+pub raised_interest : (q n m : ℕ) (ps : List Part) → AllByRecursion (λ p. 0 < p.quantity) ps → min 1 (interest q (claims (raised n m ps))) ≡ min 1 (interest q (claims ps))
 raised_interest q n m [] h = refl
 raised_interest q n m (p ∷ ps) h = go (eqb p.order n) (eqb q p.participant) h.0 (raised_interest q n m ps h.1)
   where

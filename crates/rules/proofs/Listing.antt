@@ -1,7 +1,7 @@
 -- Which orders a part can belong to. Assumes nothing.
 use Rattle.std.proofs.Common.{◌≡◌, ℕ, ◌+◌, ◌-◌, Bool, true, false, cond, ◌&&◌, ◌||◌, eqb, List, [], ◌∷◌, ◌++◌, filter, sym, refl, ap, ◌∙◌, subst, arith}
 use mathlib.Core.Bool.{false≢true}
-use Rattle.std.specs.List.{AllByRecursion as All}
+use Rattle.std.specs.List.{AllByRecursion}
 use Rattle.std.proofs.lemmas.Bool.{eqb-true, eqb-false, eq-eqb, ne_eqb, and_parts, or_parts}
 use Rattle.std.proofs.ByRecursion.{All-weaker}
 use Rattle.rules.specs.declared.orders.Side.{Side}
@@ -39,7 +39,7 @@ belongs_own e n m = rw (eq-eqb e.number e.number refl, eq-eqb e.participant e.pa
 pub own_last : (es : List Order) (e : Order) → OwnListed (es ++ (e ∷ [])) e
 own_last es e n m = any_push (λ x. belongs x e.side e.price (part e.number e.participant n m)) es e ∙ rw (belongs_own e n m) (or_yes (listed es e.side e.price (part e.number e.participant n m)))
 
-pub own_each : (es : List Order) → All (OwnListed es) es
+pub own_each : (es : List Order) → AllByRecursion (OwnListed es) es
 own_each [] = tt
 own_each (e ∷ es) = (
   (λ n m. rw (belongs_own e n m)),
@@ -75,7 +75,7 @@ listed_number (e ∷ es) s v p h = go (belongs e s v p) refl h (listed_number es
     go true e' h ih = rw (and_parts (eqb e.number p.order) _ e').0
     go false e' h ih = rw (ih h) (or_yes (eqb e.number p.order))
 
-pub others : (n : ℕ) (es : List Order) → has n (numbers es) ≡ false → All (λ x. eqb n x.number ≡ false) es
+pub others : (n : ℕ) (es : List Order) → has n (numbers es) ≡ false → AllByRecursion (λ x. eqb n x.number ≡ false) es
 others n [] h = tt
 others n (e ∷ es) h = let k = or_parts (eqb e.number n) (has n (numbers es)) h in (ne_eqb n e.number (λ z. eqb-false e.number n k.0 (sym z)), others n es k.1)
 
@@ -83,7 +83,7 @@ others n (e ∷ es) h = let k = or_parts (eqb e.number n) (has n (numbers es)) h
 abbrev pub Unique : List Order → Order → Type 0
 Unique es e = (s : Side) (v : ℕ) (p : Part) → listed es s v p ≡ true → p.order ≡ e.number → belongs e s v p ≡ true
 
-pub unique_each : (es : List Order) → Distinct (numbers es) → All (Unique es) es
+pub unique_each : (es : List Order) → Distinct (numbers es) → AllByRecursion (Unique es) es
 unique_each [] d = tt
 unique_each (e ∷ es) d = (
   (λ s v p l o. head s v p o (belongs e s v p) refl l),
@@ -102,7 +102,7 @@ unique_each (e ∷ es) d = (
         rw gone at l
 
 -- nothing of an order where none of its parts can be
-pub none_of : (es : List Order) (s : Side) (v n : ℕ) (ps : List Part) → All (λ p. listed es s v p ≡ true) ps → ((p : Part) → listed es s v p ≡ true → p.order ≡ n → ⊥) → of_order n ps ≡ 0
+pub none_of : (es : List Order) (s : Side) (v n : ℕ) (ps : List Part) → AllByRecursion (λ p. listed es s v p ≡ true) ps → ((p : Part) → listed es s v p ≡ true → p.order ≡ n → ⊥) → of_order n ps ≡ 0
 none_of es s v n [] h never = refl
 none_of es s v n (p ∷ ps) h never =
     let ih = none_of es s v n ps h.1 never in

@@ -1,6 +1,6 @@
 -- Members of a list of numbers, when one more comes last. Assumes nothing.
 use Rattle.std.proofs.Common.{◌≡◌, ℕ, ◌+◌, false, ◌||◌, eqb, List, [], ◌∷◌, ◌++◌, refl, ◌∙◌, arith}
-use Rattle.std.specs.List.{AllByRecursion as All}
+use Rattle.std.specs.List.{AllByRecursion}
 use Rattle.std.proofs.lemmas.Bool.Decides.{nat_tests}
 use Rattle.rules.specs.Lists.{has, Distinct, sum_of}
 
@@ -16,6 +16,6 @@ pub sum_of_append : {A : Type 0} (f : A → ℕ) (xs ys : List A) → sum_of f (
 sum_of_append f [] ys = omega arith
 sum_of_append f (x ∷ xs) ys = omega (arith, sum_of_append f xs ys)
 
-pub all_both : {X : Type 0} (P Q : X → Type 0) (xs : List X) → All P xs → All Q xs → All (λ x. P x × Q x) xs
+pub all_both : {X : Type 0} (P Q : X → Type 0) (xs : List X) → AllByRecursion P xs → AllByRecursion Q xs → AllByRecursion (λ x. P x × Q x) xs
 all_both P Q [] p q = tt
 all_both P Q (x ∷ xs) p q = ((p.0, q.0), all_both P Q xs p.1 q.1)

@@ -1,7 +1,7 @@
 -- Orders by rising number, and what a sound book gives of its orders. Assumes nothing.
 use Rattle.std.proofs.Common.{◌≡◌, ℕ, zero, suc, ◌+◌, ◌-◌, ◌%◌, ◌<◌, ◌≤◌, Bool, true, false, cond, not, ◌&&◌, eqb, leb, List, [], ◌∷◌, ◌++◌, filter, sym, refl, ◌∙◌, subst, mod-eq_of_lt, arith}
 use mathlib.Core.Bool.{false≢true}
-use Rattle.std.specs.List.{AllByRecursion as All}
+use Rattle.std.specs.List.{AllByRecursion}
 use Rattle.std.proofs.lemmas.Bool.{eqb-true, ne_eqb, and_parts, or_from, not-false, leb-true, leb-false}
 use Rattle.std.proofs.ByRecursion.{All-weaker, All-push}
 use Rattle.allocation.specs.Rankings.{TotalOrder}
@@ -32,11 +32,11 @@ pub rising_push : (last k : ℕ) (ns : List ℕ) → last < k → Rising last ns
 rising_push last k [] lt r = (omega arith, tt, tt)
 rising_push last k (n ∷ ns) lt r = (omega (arith, r.0), All-push (λ m. n < m) ns k r.1 (omega (arith, r.0)), rising_push last k ns lt r.2)
 
-all_numbers : (P : ℕ → Type 0) (g : Order → Bool) (es : List Order) → All P (numbers es) → All P (numbers (filter g es))
+all_numbers : (P : ℕ → Type 0) (g : Order → Bool) (es : List Order) → AllByRecursion P (numbers es) → AllByRecursion P (numbers (filter g es))
 all_numbers P g [] h = tt
 all_numbers P g (e ∷ es) h = go (g e) (all_numbers P g es h.1)
   where
-    go : (t : Bool) → All P (numbers (filter g es)) → All P (numbers (cond t (e ∷ filter g es) (filter g es)))
+    go : (t : Bool) → AllByRecursion P (numbers (filter g es)) → AllByRecursion P (numbers (cond t (e ∷ filter g es) (filter g es)))
     go true ih = (h.0, ih)
     go false ih = ih
 
@@ -48,7 +48,7 @@ rising_kept last g (e ∷ es) r = go (g e) (rising_kept last g es r.2)
     go true ih = (r.0, all_numbers (λ m. e.number < m) g es r.1, ih)
     go false ih = ih
 
-above_unlisted : (n : ℕ) (ns : List ℕ) → All (λ m. n < m) ns → has n ns ≡ false
+above_unlisted : (n : ℕ) (ns : List ℕ) → AllByRecursion (λ m. n < m) ns → has n ns ≡ false
 above_unlisted n [] h = refl
 above_unlisted n (m ∷ ns) h = or_from (eqb m n) (has n ns) (ne_eqb m n (λ e. omega (arith, h.0))) (above_unlisted n ns h.1)
 
@@ -60,13 +60,13 @@ pub rising_unlisted : (last k : ℕ) (ns : List ℕ) → Rising last ns → last
 rising_unlisted last k [] r lt = refl
 rising_unlisted last k (n ∷ ns) r lt = or_from (eqb n k) (has k ns) (ne_eqb n k (λ e. omega (arith, r.0))) (rising_unlisted last k ns r.2 lt)
 
-pub rising_below : (last k : ℕ) (es : List Order) → Rising last (numbers es) → last < k → All (λ e. eqb k e.number ≡ false) es
+pub rising_below : (last k : ℕ) (es : List Order) → Rising last (numbers es) → last < k → AllByRecursion (λ e. eqb k e.number ≡ false) es
 rising_below last k [] r lt = tt
 rising_below last k (e ∷ es) r lt = (ne_eqb k e.number (λ z. omega (arith, r.0)), rising_below last k es r.2 lt)
 
 -- ## What rests is listed
 
-part_listed : (es : List Order) (s : Side) (v n : ℕ) (ps : List Part) → All (λ p. listed es s v p ≡ true) ps → 0 < of_order n ps → has n (numbers es) ≡ true
+part_listed : (es : List Order) (s : Side) (v n : ℕ) (ps : List Part) → AllByRecursion (λ p. listed es s v p ≡ true) ps → 0 < of_order n ps → has n (numbers es) ≡ true
 part_listed es s v n [] h some = let no_way : ⊥ = omega arith in absurd no_way
 part_listed es s v n (p ∷ ps) h some = go (eqb p.order n) refl some (part_listed es s v n ps h.1)
   where
@@ -78,7 +78,7 @@ pub some_of_two : (a b : ℕ) (X : Type 0) → 0 < a + b → (0 < a → X) → (
 some_of_two zero b X h f g = g (omega arith)
 some_of_two (suc a) b X h f g = f (omega arith)
 
-side_listed : (es : List Order) (s : Side) (n : ℕ) (ls : List Level) → All (Orderly es s) ls → 0 < of_side n ls → has n (numbers es) ≡ true
+side_listed : (es : List Order) (s : Side) (n : ℕ) (ls : List Level) → AllByRecursion (Orderly es s) ls → 0 < of_side n ls → has n (numbers es) ≡ true
 side_listed es s n [] h some = let no_way : ⊥ = omega arith in absurd no_way
 side_listed es s n (l ∷ ls) h some =
     some_of_two (of_level n l) (of_side n ls) (has n (numbers es) ≡ true) some
@@ -86,7 +86,7 @@ side_listed es s n (l ∷ ls) h some =
     (part_listed es s l.price n l.shown.parts h.0.0.listed) (part_listed es s l.price n l.hidden.parts h.0.1.listed))
     (side_listed es s n ls h.1)
 
-pub resting_listed : (es : List Order) (n : ℕ) (b : Book) → All (Orderly es Buy) b.buys × All (Orderly es Sell) b.sells → 0 < resting n b → has n (numbers es) ≡ true
+pub resting_listed : (es : List Order) (n : ℕ) (b : Book) → AllByRecursion (Orderly es Buy) b.buys × AllByRecursion (Orderly es Sell) b.sells → 0 < resting n b → has n (numbers es) ≡ true
 resting_listed es n b h some = some_of_two (of_side n b.buys) (of_side n b.sells) (has n (numbers es) ≡ true) some (side_listed es Buy n b.buys h.0) (side_listed es Sell n b.sells h.1)
 
 -- ## What came with an order

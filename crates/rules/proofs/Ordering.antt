@@ -1,6 +1,6 @@
 -- Trades come in order. Assumes nothing.
 use Rattle.std.proofs.Common.{◌≡◌, ℕ, ◌-◌, ◌<◌, ◌≤◌, Bool, true, false, cond, eqb, List, [], ◌∷◌, map, Some, None, filter, Option, sym, refl, ap, ◌∙◌, subst, append-nil, arith}
-use Rattle.std.specs.List.{AllByRecursion as All}
+use Rattle.std.specs.List.{AllByRecursion}
 use Rattle.std.proofs.lemmas.List.Elements.{filter-append}
 use Rattle.allocation.specs.Rankings.{TotalOrder}
 use Rattle.allocation.specs.Dealings.{Deal, Lawful}
@@ -47,11 +47,11 @@ module _ (rank : Ranking) (O : TotalOrder rank.good) (deal : Deal) (D : Lawful d
     pub mets' : List Reached
     pub whom' : map forget mets' ≡ at_levels lot ss (filter (λ l. reaches l.price) ls)
     pub rows' : (trade_side deal lot a ss reaches q ls).rows ≡ rows_for a mets'
-    pub within' : All (λ x. x.share ≤ x.size) mets'
-    pub best_first' : All (λ y. All (λ x. Better rank s ss x y → 0 < y.share → x.share ≡ x.size) mets') mets'
-    pub left_over' : sum_of (λ x. x.share) mets' < q → All (λ x. x.share ≡ x.size) mets'
+    pub within' : AllByRecursion (λ x. x.share ≤ x.size) mets'
+    pub best_first' : AllByRecursion (λ y. AllByRecursion (λ x. Better rank s ss x y → 0 < y.share → x.share ≡ x.size) mets') mets'
+    pub left_over' : sum_of (λ x. x.share) mets' < q → AllByRecursion (λ x. x.share ≡ x.size) mets'
 
-  pub core : (s : Side) (lot a q : ℕ) (reaches : ℕ → Bool) (ls : List Level) (ss : List Step) → Fine ss → All (SoundLevel lot) ls → BestFirst rank s (prices ls) → Core s lot a q reaches ls ss
+  pub core : (s : Side) (lot a q : ℕ) (reaches : ℕ → Bool) (ls : List Level) (ss : List Step) → Fine ss → AllByRecursion (SoundLevel lot) ls → BestFirst rank s (prices ls) → Core s lot a q reaches ls ss
   core s lot a q reaches ls ss f g o =
       let left : ℕ = (trade_side deal lot a ss reaches q ls).left in
       let c = crossed rank O s deal D lot a ss f reaches q ls g o in
@@ -69,7 +69,7 @@ module _ (rank : Ranking) (O : TotalOrder rank.good) (deal : Deal) (D : Lawful d
   enter_in_order lot e b f r =
       let s : Side = other e.side in
       let c : Core s b.lot e.number e.quantity (in_reach rank b e) (side s b) b.steps =
-      core s b.lot e.number e.quantity (in_reach rank b e) (side s b) b.steps r.steps (subst (λ k. All (SoundLevel k) (side s b)) (sym f.sides.is) (side_good lot s b f.sides)) (sorted_side rank O s b r) in
+      core s b.lot e.number e.quantity (in_reach rank b e) (side s b) b.steps r.steps (subst (λ k. AllByRecursion (SoundLevel k) (side s b)) (sym f.sides.is) (side_good lot s b f.sides)) (sorted_side rank O s b r) in
       let x : Traded Book = trade rank deal e (arrived e b) in
       record {
         reached = c.mets';
@@ -90,7 +90,7 @@ module _ (rank : Ranking) (O : TotalOrder rank.good) (deal : Deal) (D : Lawful d
           record { reached = i.reached; all_reached = i.all_reached; rows = i.rows; within = i.within; best_first = i.best_first; left_over = i.left_over }
       go (Some x) h = absurd (omega (arith, refusal_some x))
 
-  run_in_order : (lot : ℕ) (b : Book) (asks : List Ask) → Fit lot b → Ranked rank O b → All (λ v. (e : Order) → Entered v e → InOrder rank v.before e v.did) (run rank deal b asks)
+  run_in_order : (lot : ℕ) (b : Book) (asks : List Ask) → Fit lot b → Ranked rank O b → AllByRecursion (λ v. (e : Order) → Entered v e → InOrder rank v.before e v.did) (run rank deal b asks)
   run_in_order lot b [] f r = tt
   run_in_order lot b (a ∷ asks) f r = (
     (λ e p. subst (λ c. InOrder rank b e (rule rank deal b a.0 c)) (sym p.0)

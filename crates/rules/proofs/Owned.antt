@@ -1,7 +1,7 @@
 -- A listed part is its order's participant's. Assumes nothing.
 use Rattle.std.proofs.Common.{◌≡◌, ℕ, Bool, true, false, ◌&&◌, ◌||◌, eqb, List, [], ◌∷◌, sym, refl, ◌∙◌, subst, arith}
 use mathlib.Core.Bool.{false≢true}
-use Rattle.std.specs.List.{AllByRecursion as All}
+use Rattle.std.specs.List.{AllByRecursion}
 use Rattle.std.proofs.lemmas.Bool.{eqb-true, eq-eqb, ne_eqb, and_parts, or_parts}
 use Rattle.std.proofs.ByRecursion.{All-weaker}
 use Rattle.rules.specs.declared.orders.Side.{Side}
@@ -38,7 +38,7 @@ listed_mine (e ∷ es) s v p d h q = go (belongs e s v p) refl h (λ k. listed_m
         let apart : eqb e.number p.order ≡ false = ne_eqb e.number p.order (λ same. false≢true (sym d.0 ∙ subst (λ n. has n (numbers es) ≡ true) (sym same) (listed_number es s v p h))) in
         rw apart (ih h)
 
-pub orderly_mine : (es : List Order) (s : Side) (ls : List Level) → Distinct (numbers es) → All (Orderly es s) ls → All (MineAt es) ls
+pub orderly_mine : (es : List Order) (s : Side) (ls : List Level) → Distinct (numbers es) → AllByRecursion (Orderly es s) ls → AllByRecursion (MineAt es) ls
 orderly_mine es s ls d h =
     All-weaker (Orderly es s) (MineAt es)
     (λ l o. (All-weaker (λ p. listed es s l.price p ≡ true) (Mine es) (λ p k. listed_mine es s l.price p d k) l.shown.parts o.0.listed, All-weaker (λ p. listed es s l.price p ≡ true) (Mine es) (λ p k. listed_mine es s l.price p d k) l.hidden.parts o.1.listed))

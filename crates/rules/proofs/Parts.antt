@@ -1,6 +1,6 @@
 -- What holds of all parts, and how many there are, when they lose shares, grow, come or lose their marks. Assumes nothing.
 use Rattle.std.proofs.Common.{◌≡◌, ℕ, ◌+◌, ◌-◌, ◌<◌, ◌≤◌, Bool, true, false, cond, eqb, ltb, leb, List, [], ◌∷◌, map, sym, refl, ◌∙◌, arith}
-use Rattle.std.specs.List.{AllByRecursion as All}
+use Rattle.std.specs.List.{AllByRecursion}
 use Rattle.std.proofs.lemmas.Bool.Decides.{nat_tests}
 use Rattle.std.proofs.lemmas.Bool.{eqb-true, eqb-false, ltb-false}
 use Rattle.std.proofs.ByRecursion.{All-push}
@@ -20,32 +20,32 @@ use Rattle.rules.proofs.Queues.{sum_pieces}
 abbrev pub Steady : (Part → Type 0) → Type 0
 Steady P = (x y : Part) → x.order ≡ y.order → x.participant ≡ y.participant → P x → P y
 
-pub all_lowered : (P : Part → Type 0) → Steady P → (ps : List Part) (xs : List ℕ) → All P ps → All P (lowered ps xs)
+pub all_lowered : (P : Part → Type 0) → Steady P → (ps : List Part) (xs : List ℕ) → AllByRecursion P ps → AllByRecursion P (lowered ps xs)
 all_lowered P st [] xs h = tt
 all_lowered P st (p ∷ ps) [] h = h
 all_lowered P st (p ∷ ps) (x ∷ xs) h = go (leb p.quantity x) (all_lowered P st ps xs h.1)
   where
-    go : (t : Bool) → All P (lowered ps xs) → All P (cond t (lowered ps xs) (part p.order p.participant (p.quantity - x) p.marked ∷ lowered ps xs))
+    go : (t : Bool) → AllByRecursion P (lowered ps xs) → AllByRecursion P (cond t (lowered ps xs) (part p.order p.participant (p.quantity - x) p.marked ∷ lowered ps xs))
     go true ih = ih
     go false ih = (st p (part p.order p.participant (p.quantity - x) p.marked) refl refl h.0, ih)
 
-pub raised_all : (P : Part → Type 0) → Steady P → (n m : ℕ) (ps : List Part) → All P ps → All P (raised n m ps)
+pub raised_all : (P : Part → Type 0) → Steady P → (n m : ℕ) (ps : List Part) → AllByRecursion P ps → AllByRecursion P (raised n m ps)
 raised_all P st n m [] h = tt
 raised_all P st n m (p ∷ ps) h = go (eqb p.order n) (raised_all P st n m ps h.1)
   where
-    go : (t : Bool) → All P (raised n m ps) → All P (cond t (part p.order p.participant (p.quantity + m) p.marked ∷ ps) (p ∷ raised n m ps))
+    go : (t : Bool) → AllByRecursion P (raised n m ps) → AllByRecursion P (cond t (part p.order p.participant (p.quantity + m) p.marked ∷ ps) (p ∷ raised n m ps))
     go true ih = (st p (part p.order p.participant (p.quantity + m) p.marked) refl refl h.0, h.1)
     go false ih = (h.0, ih)
 
-pub lose_all : (P : Part → Type 0) → Steady P → (xs : List ℕ) (k : Queue) → All P k.parts → All P (lose xs k).parts
+pub lose_all : (P : Part → Type 0) → Steady P → (xs : List ℕ) (k : Queue) → AllByRecursion P k.parts → AllByRecursion P (lose xs k).parts
 unfolding lose
 lose_all P st xs k h = all_lowered P st k.parts xs h
 
-pub put_all : (P : Part → Type 0) (x : Part) (k : Queue) → All P k.parts → P x → All P (put x k).parts
+pub put_all : (P : Part → Type 0) (x : Part) (k : Queue) → AllByRecursion P k.parts → P x → AllByRecursion P (put x k).parts
 unfolding put
 put_all P x k h y = All-push P k.parts x h y
 
-pub unmark_all : (P : Part → Type 0) → Steady P → (ps : List Part) → All P ps → All P (map (λ p. part p.order p.participant p.quantity false) ps)
+pub unmark_all : (P : Part → Type 0) → Steady P → (ps : List Part) → AllByRecursion P ps → AllByRecursion P (map (λ p. part p.order p.participant p.quantity false) ps)
 unmark_all P st [] h = tt
 unmark_all P st (p ∷ ps) h = (st p (part p.order p.participant p.quantity false) refl refl h.0, unmark_all P st ps h.1)
 
@@ -90,7 +90,7 @@ some_part n (p ∷ ps) h = go (eqb p.order n) h (some_part n ps)
     go true h ih = omega arith
     go false h ih = omega (arith, ih (omega arith))
 
-pub no_part : (n : ℕ) (ps : List Part) → All (λ p. 0 < p.quantity) ps → of_order n ps ≡ 0 → parts_of n ps ≡ 0
+pub no_part : (n : ℕ) (ps : List Part) → AllByRecursion (λ p. 0 < p.quantity) ps → of_order n ps ≡ 0 → parts_of n ps ≡ 0
 no_part n [] pos h = refl
 no_part n (p ∷ ps) pos h = go (eqb p.order n) pos.0 h (no_part n ps pos.1)
   where
@@ -98,12 +98,12 @@ no_part n (p ∷ ps) pos h = go (eqb p.order n) pos.0 h (no_part n ps pos.1)
     go true some h ih = let no_way : ⊥ = omega arith in absurd no_way
     go false some h ih = omega (arith, ih (omega arith))
 
-all_gone : (n : ℕ) (ps : List Part) → All (λ p. 0 < p.quantity) ps → parts_of n (lowered ps (pieces n ps)) ≡ 0
+all_gone : (n : ℕ) (ps : List Part) → AllByRecursion (λ p. 0 < p.quantity) ps → parts_of n (lowered ps (pieces n ps)) ≡ 0
 all_gone n [] pos = refl
 all_gone n (p ∷ ps) pos = let ih = all_gone n ps pos.1 in let some = pos.0 in grind (arith, nat_tests)
 
 -- without its last part an order has one part less
-pub last_gone : (n : ℕ) (ps : List Part) → All (λ p. 0 < p.quantity) ps → parts_of n (lowered ps (last_alone (pieces n ps))) ≡ parts_of n ps - 1
+pub last_gone : (n : ℕ) (ps : List Part) → AllByRecursion (λ p. 0 < p.quantity) ps → parts_of n (lowered ps (last_alone (pieces n ps))) ≡ parts_of n ps - 1
 last_gone n [] pos = refl
 last_gone n (p ∷ ps) pos = go (eqb (sum (pieces n ps)) 0) refl (last_gone n ps pos.1)
   where
@@ -121,7 +121,7 @@ sum_last : (xs : List ℕ) → sum (last_alone xs) ≤ sum xs
 sum_last [] = omega arith
 sum_last (x ∷ xs) = let ih = sum_last xs in grind arith
 
-shows_few : (n : ℕ) (ps : List Part) → All (λ p. 0 < p.quantity) ps → of_order n ps ≤ sum (last_alone (pieces n ps)) → parts_of n ps ≤ 1
+shows_few : (n : ℕ) (ps : List Part) → AllByRecursion (λ p. 0 < p.quantity) ps → of_order n ps ≤ sum (last_alone (pieces n ps)) → parts_of n ps ≤ 1
 shows_few n [] pos h = omega arith
 shows_few n (p ∷ ps) pos h = go (eqb (sum (pieces n ps)) 0) refl h (shows_few n ps pos.1)
   where
@@ -137,5 +137,5 @@ shows_few n (p ∷ ps) pos h = go (eqb (sum (pieces n ps)) 0) refl h (shows_few 
         grind (arith, nat_tests)
 
 -- an order that does not show two parts shows one at most
-pub shows_one : (n : ℕ) (ps : List Part) → All (λ p. 0 < p.quantity) ps → ltb (sum (last_alone (pieces n ps))) (of_order n ps) ≡ false → parts_of n ps ≤ 1
+pub shows_one : (n : ℕ) (ps : List Part) → AllByRecursion (λ p. 0 < p.quantity) ps → ltb (sum (last_alone (pieces n ps))) (of_order n ps) ≡ false → parts_of n ps ≤ 1
 shows_one n ps pos h = shows_few n ps pos (ltb-false (sum (last_alone (pieces n ps))) (of_order n ps) h)

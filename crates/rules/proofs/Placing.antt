@@ -1,7 +1,7 @@
 -- What placing does to prices that hold parts, and to orders that run low. Assumes nothing.
 use Rattle.std.proofs.Common.{◌≡◌, ℕ, ◌-◌, ◌≤◌, min, Bool, true, false, cond, not, ◌&&◌, ◌||◌, eqb, List, [], ◌∷◌, sym, refl, ◌∙◌, subst, arith}
 use mathlib.Core.Bool.{false≢true}
-use Rattle.std.specs.List.{AllByRecursion as All}
+use Rattle.std.specs.List.{AllByRecursion}
 use Rattle.std.proofs.lemmas.Bool.{or_parts, not-false}
 use Rattle.allocation.specs.Rankings.{TotalOrder}
 use Rattle.rules.specs.declared.orders.Side.{Side}
@@ -49,11 +49,11 @@ two_parts_held P rank b e n l here h = go (eqb (n - d) 0)
     go false = put_hidden_held P (hidden_part e (n - d)) (put_shown x l) here (put_held P x l here h)
 
 module _ (rank : Ranking) (O : TotalOrder rank.good) where
-  placed_held : (P : ℕ → Type 0) (s : Side) (v : ℕ) (f : Level → Level) (ls : List Level) → BestFirst rank s (prices ls) → P v → ((l : Level) → P l.price → Held P l → Held P (f l)) → All (Held P) ls → All (Held P) (on_price rank s v f ls)
+  placed_held : (P : ℕ → Type 0) (s : Side) (v : ℕ) (f : Level → Level) (ls : List Level) → BestFirst rank s (prices ls) → P v → ((l : Level) → P l.price → Held P l → Held P (f l)) → AllByRecursion (Held P) ls → AllByRecursion (Held P) (on_price rank s v f ls)
   placed_held P s v f ls o here step h =
       on_price_to rank O s (Held P) (Held P) v f ls o (step (nothing_at v) here (tt, tt)) (λ l same k. step l (subst P (sym same) here) k) (λ l ne k. k) h
 
-  there : (P : ℕ → Type 0) (s : Side) (ls : List Level) (b : Book) → All (Held P) ls → All (Held P) (side s (with_side s ls b))
+  there : (P : ℕ → Type 0) (s : Side) (ls : List Level) (b : Book) → AllByRecursion (Held P) ls → AllByRecursion (Held P) (side s (with_side s ls b))
   there P Buy ls b h = h
   there P Sell ls b h = h
 
@@ -62,7 +62,7 @@ module _ (rank : Ranking) (O : TotalOrder rank.good) where
   away_from Sell ls b = refl
 
   -- every price of the order's side that holds parts afterwards held some, or is the order's
-  pub place_held : (P : ℕ → Type 0) (k : Kind) (e : Order) (n : ℕ) (b : Book) → BestFirst rank e.side (prices (side e.side b)) → P e.price → All (Held P) (side e.side b) → All (Held P) (side e.side (place rank k e n b))
+  pub place_held : (P : ℕ → Type 0) (k : Kind) (e : Order) (n : ℕ) (b : Book) → BestFirst rank e.side (prices (side e.side b)) → P e.price → AllByRecursion (Held P) (side e.side b) → AllByRecursion (Held P) (side e.side (place rank k e n b))
   unfolding place
   place_held P Kind.Limit e n b o here h = there P e.side (on_price rank e.side e.price (put_shown (shown_part rank b e n)) (side e.side b)) b (placed_held P e.side e.price (put_shown (shown_part rank b e n)) (side e.side b) o here (put_held P (shown_part rank b e n)) h)
   place_held P Kind.Hidden e n b o here h = there P e.side (on_price rank e.side e.price (put_hidden (hidden_part e n)) (side e.side b)) b (placed_held P e.side e.price (put_hidden (hidden_part e n)) (side e.side b) o here (put_hidden_held P (hidden_part e n)) h)
@@ -140,15 +140,15 @@ module _ (rank : Ranking) (O : TotalOrder rank.good) where
   place_rested lot j Kind.Immediate e n b ne h = h
   place_rested lot j Kind.Market e n b ne h = h
 
-  no_part_low : (lot n : ℕ) (ls : List Level) → of_side n ls ≡ 0 → All (λ l. runs_low lot n l ≡ false) ls
+  no_part_low : (lot n : ℕ) (ls : List Level) → of_side n ls ≡ 0 → AllByRecursion (λ l. runs_low lot n l ≡ false) ls
   no_part_low lot n [] h = tt
   no_part_low lot n (l ∷ ls) h = (not_low lot (of_order n l.shown.parts) (of_order n l.hidden.parts) (λ some. omega arith), no_part_low lot n ls (omega arith))
 
-  hides_nothing : (n : ℕ) (ls : List Level) → of_side n ls ≡ 0 → All (λ l. (of_order n l.hidden.parts ≡ 0)) ls
+  hides_nothing : (n : ℕ) (ls : List Level) → of_side n ls ≡ 0 → AllByRecursion (λ l. (of_order n l.hidden.parts ≡ 0)) ls
   hides_nothing n [] h = tt
   hides_nothing n (l ∷ ls) h = (omega arith, hides_nothing n ls (omega arith))
 
-  own_reserve : (lot : ℕ) (e : Order) (n : ℕ) (b : Book) (s : Side) (ls : List Level) → BestFirst rank s (prices ls) → lot ≤ e.display → of_side e.number ls ≡ 0 → All (λ l. runs_low lot e.number l ≡ false) (on_price rank s e.price (two_parts rank b e n) ls)
+  own_reserve : (lot : ℕ) (e : Order) (n : ℕ) (b : Book) (s : Side) (ls : List Level) → BestFirst rank s (prices ls) → lot ≤ e.display → of_side e.number ls ≡ 0 → AllByRecursion (λ l. runs_low lot e.number l ≡ false) (on_price rank s e.price (two_parts rank b e n) ls)
   own_reserve lot e n b s ls o enough absent =
       on_price_to rank O s (λ l. (runs_low lot e.number l ≡ false) × (of_order e.number l.hidden.parts ≡ 0)) (λ l. runs_low lot e.number l ≡ false) e.price (two_parts rank b e n) ls o
       (two_parts_not_low rank b lot e n (nothing_at e.price) enough refl)

@@ -1,7 +1,7 @@
 -- A queue stays sound, and what an order has there. Assumes nothing.
 use Rattle.std.proofs.Common.{◌≡◌, ℕ, ◌+◌, ◌-◌, ◌<◌, ◌≤◌, min, Bool, true, false, cond, eqb, leb, List, [], ◌∷◌, ◌++◌, reverse, length, take, drop, refl, arith}
 use mathlib.Core.List.{reverse-cons}
-use Rattle.std.specs.List.{AllByRecursion as All}
+use Rattle.std.specs.List.{AllByRecursion}
 use Rattle.std.proofs.lemmas.List.{map_push, take_at, drop_at, reverse-reverse}
 use Rattle.std.proofs.ByRecursion.{All-push}
 use Rattle.std.proofs.lemmas.Bool.{leb-false}
@@ -74,12 +74,12 @@ lowered_pieces m n ps xs h = omega (arith, lowered_of m ps xs (under_at_most n x
 
 -- ## Sound-queue queues
 
-pub positive_lowered : (ps : List Part) (xs : List ℕ) → All (λ p. 0 < p.quantity) ps → All (λ p. 0 < p.quantity) (lowered ps xs)
+pub positive_lowered : (ps : List Part) (xs : List ℕ) → AllByRecursion (λ p. 0 < p.quantity) ps → AllByRecursion (λ p. 0 < p.quantity) (lowered ps xs)
 positive_lowered [] xs h = tt
 positive_lowered (p ∷ ps) [] h = h
 positive_lowered (p ∷ ps) (x ∷ xs) h = go (leb p.quantity x) refl (positive_lowered ps xs h.1)
   where
-    go : (t : Bool) → leb p.quantity x ≡ t → All (λ p. 0 < p.quantity) (lowered ps xs) → All (λ p. 0 < p.quantity) (cond t (lowered ps xs) (part p.order p.participant (p.quantity - x) p.marked ∷ lowered ps xs))
+    go : (t : Bool) → leb p.quantity x ≡ t → AllByRecursion (λ p. 0 < p.quantity) (lowered ps xs) → AllByRecursion (λ p. 0 < p.quantity) (cond t (lowered ps xs) (part p.order p.participant (p.quantity - x) p.marked ∷ lowered ps xs))
     go true e ih = ih
     go false e ih = (omega (arith, leb-false p.quantity x e), ih)
 

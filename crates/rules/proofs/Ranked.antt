@@ -1,7 +1,7 @@
 -- Levels stay in the order of their prices, and trades come in order. Assumes nothing.
 use Rattle.std.proofs.Common.{◌≡◌, ℕ, ◌-◌, min, Bool, true, false, cond, not, ◌&&◌, eqb, List, [], ◌∷◌, Some, None, fold, filter, Option, sym, refl, ap, ◌∙◌, subst}
 use mathlib.Core.Bool.{false≢true}
-use Rattle.std.specs.List.{AllByRecursion as All}
+use Rattle.std.specs.List.{AllByRecursion}
 use Rattle.std.proofs.ByRecursion.{All-weaker}
 use Rattle.std.proofs.lemmas.Bool.{eqb-false, not-true, not_from_false}
 use Rattle.allocation.specs.Rankings.{TotalOrder}
@@ -94,12 +94,12 @@ module _ (rank : Ranking) (O : TotalOrder rank.good) where
       go true e = absurd (eqb-false w v ne (good_same rank O s w v e h))
       go false e = refl
 
-  pub on_price_all : (s : Side) (P : ℕ → Type 0) (v : ℕ) (f : Level → Level) (ls : List Level) → Still f → P v → All P (prices ls) → All P (prices (on_price rank s v f ls))
+  pub on_price_all : (s : Side) (P : ℕ → Type 0) (v : ℕ) (f : Level → Level) (ls : List Level) → Still f → P v → AllByRecursion P (prices ls) → AllByRecursion P (prices (on_price rank s v f ls))
   unfolding on_price
   on_price_all s P v f [] still here h = (subst P (sym (still (nothing_at v))) here, tt)
   on_price_all s P v f (l ∷ ls) still here h = go (eqb l.price v) (good rank s v l.price) (on_price_all s P v f ls still here h.1)
     where
-      go : (t u : Bool) → All P (prices (on_price rank s v f ls)) → All P (prices (cond t (f l ∷ ls) (cond u (f (nothing_at v) ∷ l ∷ ls) (l ∷ on_price rank s v f ls))))
+      go : (t u : Bool) → AllByRecursion P (prices (on_price rank s v f ls)) → AllByRecursion P (prices (cond t (f l ∷ ls) (cond u (f (nothing_at v) ∷ l ∷ ls) (l ∷ on_price rank s v f ls))))
       go true u ih = (subst P (sym (still l)) h.0, h.1)
       go false true ih = (subst P (sym (still (nothing_at v))) here, h)
       go false false ih = (h.0, ih)
@@ -113,14 +113,14 @@ module _ (rank : Ranking) (O : TotalOrder rank.good) where
           → BestFirst rank s (prices (cond t (f l ∷ ls) (cond u (f (nothing_at v) ∷ l ∷ ls) (l ∷ on_price rank s v f ls))))
       go true et u eu ih = (rw (still l) h.0, h.1)
       go false et true eu ih =
-          (subst (λ k. All (λ w. better rank s k w ≡ true) (l.price ∷ prices ls)) (sym (still (nothing_at v))) (strictly s v l.price et eu, All-weaker (λ w. better rank s l.price w ≡ true) (λ w. better rank s v w ≡ true) (λ w k. better_chain s v l.price w eu k) (prices ls) h.0), h)
+          (subst (λ k. AllByRecursion (λ w. better rank s k w ≡ true) (l.price ∷ prices ls)) (sym (still (nothing_at v))) (strictly s v l.price et eu, All-weaker (λ w. better rank s l.price w ≡ true) (λ w. better rank s v w ≡ true) (λ w k. better_chain s v l.price w eu k) (prices ls) h.0), h)
       go false et false eu ih = (on_price_all s (λ w. better rank s l.price w ≡ true) v f ls still (not_from_false (good rank s v l.price) eu) h.0, ih)
 
-  kept_all : (P : ℕ → Type 0) (f : Level → Bool) (ls : List Level) → All P (prices ls) → All P (prices (filter f ls))
+  kept_all : (P : ℕ → Type 0) (f : Level → Bool) (ls : List Level) → AllByRecursion P (prices ls) → AllByRecursion P (prices (filter f ls))
   kept_all P f [] h = tt
   kept_all P f (l ∷ ls) h = go (f l) (kept_all P f ls h.1)
     where
-      go : (t : Bool) → All P (prices (filter f ls)) → All P (prices (cond t (l ∷ filter f ls) (filter f ls)))
+      go : (t : Bool) → AllByRecursion P (prices (filter f ls)) → AllByRecursion P (prices (cond t (l ∷ filter f ls) (filter f ls)))
       go true ih = (h.0, ih)
       go false ih = ih
 

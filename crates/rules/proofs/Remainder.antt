@@ -1,7 +1,7 @@
 -- A sound book, after an order has traded and its remainder is placed or given back. Assumes nothing.
 use Rattle.std.proofs.Common.{◌≡◌, ℕ, ◌+◌, ◌-◌, ◌<◌, ◌≤◌, Bool, true, false, cond, ◌&&◌, ◌||◌, eqb, leb, List, [], ◌∷◌, ◌++◌, length, None, fold, sym, refl, ap, ◌∙◌, subst, arith}
 use mathlib.Core.Bool.{false≢true}
-use Rattle.std.specs.List.{AllByRecursion as All}
+use Rattle.std.specs.List.{AllByRecursion}
 use Rattle.std.proofs.lemmas.List.{map_push, length_push}
 use Rattle.std.proofs.lemmas.Bool.{eq-eqb, leb-false}
 use Rattle.std.proofs.ByRecursion.{All-weaker, All-push}
@@ -74,10 +74,10 @@ has_counted s (t ∷ ss) h = go (same_step t s) h (has_counted s ss)
     go true h ih = refl
     go false h ih = ih (omega arith)
 
-units : (ls : List Level) → All (Held (λ _. Unit {0})) ls
+units : (ls : List Level) → AllByRecursion (Held (λ _. Unit {0})) ls
 units ls = price_held (λ _. Unit {0}) ls (every ls)
   where
-    every : (ls : List Level) → All (λ (_ : Level). Unit {0}) ls
+    every : (ls : List Level) → AllByRecursion (λ (_ : Level). Unit {0}) ls
     every [] = tt
     every (l ∷ ls) = (tt, every ls)
 
@@ -94,22 +94,22 @@ module _ (rank : Ranking) (O : TotalOrder rank.good) (deal : Deal) (D : Lawful d
       let c : Book = arrived e b in
       let reach : ℕ → Bool = in_reach rank c e in
       let k : Ranked rank O b = sound_ranked rank O b s in
-      let g : All (SoundLevel b.lot) (side t b) = side_good b.lot t b (record { is = refl; buys = s.buys.sound; sells = s.sells.sound }) in
+      let g : AllByRecursion (SoundLevel b.lot) (side t b) = side_good b.lot t b (record { is = refl; buys = s.buys.sound; sells = s.sells.sound }) in
       record {
         sides = side_fit b.lot t (met_side b e) c (record { is = refl; buys = s.buys.sound; sells = s.sells.sound }) (trade_side_good deal D b.lot e.number b.steps reach e.quantity (side t b) g);
         ranked = side_ranked rank O t (met_side b e) c (record { steps = k.steps; buys = k.buys; sells = k.sells }) (subst (λ vs. BestFirst rank t vs) (sym (trade_side_prices deal b.lot e.number b.steps reach e.quantity (side t b))) (sorted_side rank O t b k));
         both = with_both t (met_side b e) (each_traded (Orderly b.orders t) (orderly_step b.orders t) deal b.lot e.number b.steps reach e.quantity (side t b) (orderly_side b.orders t b (s.buys.orderly, s.sells.orderly)));
       }
     where
-      with_both : (t : Side) (ls : List Level) → All (Orderly b.orders t) ls → Both b.orders (with_side t ls (arrived e b))
+      with_both : (t : Side) (ls : List Level) → AllByRecursion (Orderly b.orders t) ls → Both b.orders (with_side t ls (arrived e b))
       with_both Buy ls h = (h, s.sells.orderly)
       with_both Sell ls h = (s.buys.orderly, h)
 
   record MetBook (b : Book) (e : Order) (r : Traded Book) (pos : 0 < b.lot) : Type 0 where
     midway : Midway rank O b.lot pos b.orders r.rest
     apart : Apart rank r.rest.buys r.rest.sells
-    rested : All (λ x. is_reserve x.kind ≡ true → Rested b.lot x.number r.rest) b.orders
-    emptied : 0 < r.left → All (Held (λ w. in_reach rank (arrived e b) e w ≡ false)) (side (other e.side) r.rest)
+    rested : AllByRecursion (λ x. is_reserve x.kind ≡ true → Rested b.lot x.number r.rest) b.orders
+    emptied : 0 < r.left → AllByRecursion (Held (λ w. in_reach rank (arrived e b) e w ≡ false)) (side (other e.side) r.rest)
 
   met_book : (b : Book) (e : Order) (s : SoundBook rank b) → MetBook b e (trade rank deal e (arrived e b)) s.lot
   unfolding trade replenish
@@ -145,24 +145,24 @@ module _ (rank : Ranking) (O : TotalOrder rank.good) (deal : Deal) (D : Lawful d
       once : Distinct (numbers es)
       once = rising_distinct b.last (numbers es) s.rising
 
-      displays : All Displays es
+      displays : AllByRecursion Displays es
       displays = All-weaker (Admitted b.lot) Displays (λ x a. admitted_displays b.lot x a) es s.admitted
 
-      big : All (λ x. is_reserve x.kind ≡ true → b.lot ≤ x.display) es
+      big : AllByRecursion (λ x. is_reserve x.kind ≡ true → b.lot ≤ x.display) es
       big = All-weaker (Admitted b.lot) (λ x. is_reserve x.kind ≡ true → b.lot ≤ x.display) (λ x a r. display_enough b.lot x s.lot a r) es s.admitted
 
       mid : Midway rank O b.lot s.lot es reached_part
       mid = midway_met b e s s.lot
 
-      traded_held : (t : Side) (P : ℕ → Type 0) → All (Held P) (side t c) → All (Held P) (trade_side deal b.lot e.number b.steps reach e.quantity (side t c)).rest
+      traded_held : (t : Side) (P : ℕ → Type 0) → AllByRecursion (Held P) (side t c) → AllByRecursion (Held P) (trade_side deal b.lot e.number b.steps reach e.quantity (side t c)).rest
       traded_held t P h = each_traded (Held P) (held_step P) deal b.lot e.number b.steps reach e.quantity (side t c) h
 
       apart_met : (t : Side) → (let x : Book = with_side t (trade_side deal b.lot e.number b.steps reach e.quantity (side t c)).rest c in Apart rank x.buys x.sells)
       apart_met Buy = apart_changed rank b.buys (trade_side deal b.lot e.number b.steps reach e.quantity b.buys).rest b.sells b.sells (traded_held Buy) (λ P h. h) (uncrossed_apart rank b.buys b.sells s.uncrossed)
       apart_met Sell = apart_changed rank b.buys b.buys b.sells (trade_side deal b.lot e.number b.steps reach e.quantity b.sells).rest (λ P h. h) (traded_held Sell) (uncrossed_apart rank b.buys b.sells s.uncrossed)
 
-      kept_empty : (t : Side) → All (Held (λ w. reach w ≡ false)) (trade_side deal b.lot e.number b.steps reach e.quantity (side t c)).rest
-          → All (Held (λ w. reach w ≡ false)) (side t (fold (replenish_order rank) (with_side t (trade_side deal b.lot e.number b.steps reach e.quantity (side t c)).rest c) es))
+      kept_empty : (t : Side) → AllByRecursion (Held (λ w. reach w ≡ false)) (trade_side deal b.lot e.number b.steps reach e.quantity (side t c)).rest
+          → AllByRecursion (Held (λ w. reach w ≡ false)) (side t (fold (replenish_order rank) (with_side t (trade_side deal b.lot e.number b.steps reach e.quantity (side t c)).rest c) es))
       kept_empty Buy h = (all_held (λ w. reach w ≡ false) (λ _. Unit {0}) rank (with_side Buy (trade_side deal b.lot e.number b.steps reach e.quantity b.buys).rest c) es (h, units b.sells)).0
       kept_empty Sell h = (all_held (λ _. Unit {0}) (λ w. reach w ≡ false) rank (with_side Sell (trade_side deal b.lot e.number b.steps reach e.quantity b.sells).rest c) es (units b.buys, h)).1
 
@@ -220,22 +220,22 @@ module _ (rank : Ranking) (O : TotalOrder rank.good) (deal : Deal) (D : Lawful d
         x : Book
         x = place rank e.kind e n y
 
-        held : (t : Side) → e.side ≡ t → (P : ℕ → Type 0) → P e.price → All (Held P) (side t y) → All (Held P) (side t x)
-        held t eq P = subst (λ t. P e.price → All (Held P) (side t y) → All (Held P) (side t x)) eq (place_held rank O P e.kind e n y (sorted_side rank O e.side y M.midway.ranked))
+        held : (t : Side) → e.side ≡ t → (P : ℕ → Type 0) → P e.price → AllByRecursion (Held P) (side t y) → AllByRecursion (Held P) (side t x)
+        held t eq P = subst (λ t. P e.price → AllByRecursion (Held P) (side t y) → AllByRecursion (Held P) (side t x)) eq (place_held rank O P e.kind e n y (sorted_side rank O e.side y M.midway.ranked))
 
         apart_side : (t : Side) → e.side ≡ t → side (other t) x ≡ side (other t) y
         apart_side t eq = subst (λ t. side (other t) x ≡ side (other t) y) eq (place_other rank O e.kind e n y)
 
-        clear : (t : Side) → e.side ≡ t → All (Held (λ w. good rank (other t) w e.price ≡ false)) (side (other t) y)
-        clear t eq = subst (λ t. All (Held (λ w. good rank (other t) w e.price ≡ false)) (side (other t) y)) eq
+        clear : (t : Side) → e.side ≡ t → AllByRecursion (Held (λ w. good rank (other t) w e.price ≡ false)) (side (other t) y)
+        clear t eq = subst (λ t. AllByRecursion (Held (λ w. good rank (other t) w e.price ≡ false)) (side (other t) y)) eq
             (held_weaker (λ w. in_reach rank (arrived e b) e w ≡ false) (λ w. good rank (other e.side) w e.price ≡ false) (λ w h. out_of_limit rank O e b w np h) (side (other e.side) y) (M.emptied some))
 
         go : (t : Side) → e.side ≡ t → Apart rank x.buys x.sells
-        go Buy eq = subst (λ ss. Apart rank x.buys ss) (sym (apart_side Buy eq)) (held Buy eq (λ v. All (Held (λ w. good rank Sell w v ≡ false)) y.sells) (clear Buy eq) M.apart)
+        go Buy eq = subst (λ ss. Apart rank x.buys ss) (sym (apart_side Buy eq)) (held Buy eq (λ v. AllByRecursion (Held (λ w. good rank Sell w v ≡ false)) y.sells) (clear Buy eq) M.apart)
         go Sell eq = subst (λ bs. Apart rank bs x.sells) (sym (apart_side Sell eq))
-            (held_weaker (λ v. All (Held (λ w. good rank Sell w v ≡ false)) y.sells × (good rank Buy v e.price ≡ false)) (λ v. All (Held (λ w. good rank Sell w v ≡ false)) x.sells)
+            (held_weaker (λ v. AllByRecursion (Held (λ w. good rank Sell w v ≡ false)) y.sells × (good rank Buy v e.price ≡ false)) (λ v. AllByRecursion (Held (λ w. good rank Sell w v ≡ false)) x.sells)
             (λ v h. held Sell eq (λ w. good rank Sell w v ≡ false) (sym (turned_good rank O v e.price) ∙ h.1) h.0) y.buys
-            (held_and (λ v. All (Held (λ w. good rank Sell w v ≡ false)) y.sells) (λ v. good rank Buy v e.price ≡ false) y.buys M.apart (clear Sell eq)))
+            (held_and (λ v. AllByRecursion (Held (λ w. good rank Sell w v ≡ false)) y.sells) (λ v. good rank Buy v e.price ≡ false) y.buys M.apart (clear Sell eq)))
 
     pub resting_one : Fit b.lot (with_order e (place rank e.kind e trading.left trading.rest)) → Ranked rank O (with_order e (place rank e.kind e trading.left trading.rest)) → 0 < trading.left → not_placed rank b e ≡ false
         → Upkept rank O b.lot (with_order e (place rank e.kind e trading.left trading.rest))
@@ -249,14 +249,14 @@ module _ (rank : Ranking) (O : TotalOrder rank.good) (deal : Deal) (D : Lawful d
           rising = subst (λ j. Rising j (numbers (x.orders ++ (e ∷ [])))) (sym (same.last ∙ T.same.last))
               (subst (λ os. Rising e.number (numbers os)) (sym orders) (subst (λ ns. Rising e.number ns) (sym (map_push (λ e. e.number) b.orders e)) (rising_push b.last e.number (numbers b.orders) a.new s.rising)));
           few = subst (λ os. length os ≤ 128) (sym orders) (omega (arith, length_push b.orders e, room));
-          admitted = subst (λ os. All (Admitted b.lot) os) (sym orders) (All-push (Admitted b.lot) b.orders e s.admitted own);
-          inside = subst (λ os. All (λ o. resting o.number x ≤ o.quantity) os) (sym orders)
+          admitted = subst (λ os. AllByRecursion (Admitted b.lot) os) (sym orders) (All-push (Admitted b.lot) b.orders e s.admitted own);
+          inside = subst (λ os. AllByRecursion (λ o. resting o.number x ≤ o.quantity) os) (sym orders)
               (All-push (λ o. resting o.number x ≤ o.quantity) b.orders e
               (All-weaker (λ o. (eqb e.number o.number ≡ false) × ((0 < resting o.number b) × (resting o.number b ≤ o.quantity))) (λ o. resting o.number x ≤ o.quantity)
               (λ o h. (let p = rw h.0 at (more o.number) in omega (arith, (T.even o.number).rest, h.1.1))) b.orders
               (all_both (λ o. eqb e.number o.number ≡ false) (λ o. (0 < resting o.number b) × (resting o.number b ≤ o.quantity)) b.orders below s.resting))
               (let p = rw (eq-eqb e.number e.number refl) at (more e.number) in omega (arith, new_here, (T.even e.number).less)));
-          rested = subst (λ os. All (λ o. is_reserve o.kind ≡ true → Rested b.lot o.number x) os) (sym orders)
+          rested = subst (λ os. AllByRecursion (λ o. is_reserve o.kind ≡ true → Rested b.lot o.number x) os) (sym orders)
               (All-push (λ o. is_reserve o.kind ≡ true → Rested b.lot o.number x) b.orders e
               (All-weaker (λ o. (eqb e.number o.number ≡ false) × (is_reserve o.kind ≡ true → Rested b.lot o.number trading.rest)) (λ o. is_reserve o.kind ≡ true → Rested b.lot o.number x)
               (λ o h v. place_rested rank O b.lot o.number e.kind e n trading.rest h.0 (h.1 v)) b.orders
@@ -282,7 +282,7 @@ module _ (rank : Ranking) (O : TotalOrder rank.good) (deal : Deal) (D : Lawful d
         more : (j : ℕ) → resting j x ≡ resting j trading.rest + cond (eqb e.number j) n 0
         more j = place_rest rank e.kind e n j trading.rest kind_rests
 
-        below : All (λ o. eqb e.number o.number ≡ false) b.orders
+        below : AllByRecursion (λ o. eqb e.number o.number ≡ false) b.orders
         below = rising_below b.last e.number b.orders s.rising a.new
 
         own : Admitted b.lot e

@@ -1,6 +1,6 @@
 -- Answers and rows agree, and rows name orders that rested or arrive. Assumes nothing.
 use Rattle.std.proofs.Common.{◌≡◌, ℕ, ◌+◌, ◌-◌, ◌<◌, ◌≤◌, Bool, true, false, not, eqb, leb, List, [], ◌∷◌, length, Some, None, Option, sym, refl, ap, ◌∙◌, subst, inl, inr, arith}
-use Rattle.std.specs.List.{AllByRecursion as All}
+use Rattle.std.specs.List.{AllByRecursion}
 use Rattle.std.proofs.lemmas.List.{length_push, length-map}
 use Rattle.std.proofs.lemmas.Bool.{eqb-false, eq-eqb, and_parts, leb-true}
 use Rattle.std.proofs.ByRecursion.{All-weaker, All-push}
@@ -40,21 +40,21 @@ use Rattle.rules.proofs.Tending.{orderly_side}
 -- ## Rows of trades
 
 -- each row is at most the sum
-all_below_each : {X : Type 0} (f : ℕ → X → ℕ) (xs : List X) → All (λ x. (n : ℕ) → f n x ≤ sum_of (f n) xs) xs
+all_below_each : {X : Type 0} (f : ℕ → X → ℕ) (xs : List X) → AllByRecursion (λ x. (n : ℕ) → f n x ≤ sum_of (f n) xs) xs
 all_below_each f [] = tt
 all_below_each f (x ∷ xs) = ((λ n. omega arith), All-weaker (λ y. (n : ℕ) → f n y ≤ sum_of (f n) xs) (λ y. (n : ℕ) → f n y ≤ f n x + sum_of (f n) xs) (λ y h n. omega (arith, h n)) xs (all_below_each f xs))
 
-trades_sum : (a : ℕ) (rs : List Row) → All (Arrives a) rs → sum_of row_traded rs ≡ sum_of (as_arriving a) rs
+trades_sum : (a : ℕ) (rs : List Row) → AllByRecursion (Arrives a) rs → sum_of row_traded rs ≡ sum_of (as_arriving a) rs
 trades_sum a [] h = refl
 trades_sum a (Trade s r b v q ∷ rs) h = rw (eq-eqb b a h.0) (omega (arith, trades_sum a rs h.1))
 trades_sum a (GivenBack n q ∷ rs) h = absurd h.0
 
-trades_give_nothing : (a : ℕ) (rs : List Row) → All (Arrives a) rs → sum_of row_given_back rs ≡ 0
+trades_give_nothing : (a : ℕ) (rs : List Row) → AllByRecursion (Arrives a) rs → sum_of row_given_back rs ≡ 0
 trades_give_nothing a [] h = refl
 trades_give_nothing a (Trade s r b v q ∷ rs) h = omega (arith, trades_give_nothing a rs h.1)
 trades_give_nothing a (GivenBack n q ∷ rs) h = absurd h.0
 
-trade_names : (b : Book) (e : Order) (rs : List Row) → All (Arrives e.number) rs → All (λ r. 0 < row_traded r) rs → All (λ r. (n : ℕ) → as_resting n r ≤ resting n b) rs → All (Names b (Enter e)) rs
+trade_names : (b : Book) (e : Order) (rs : List Row) → AllByRecursion (Arrives e.number) rs → AllByRecursion (λ r. 0 < row_traded r) rs → AllByRecursion (λ r. (n : ℕ) → as_resting n r ≤ resting n b) rs → AllByRecursion (Names b (Enter e)) rs
 trade_names b e [] h p k = tt
 trade_names b e (Trade s r a v q ∷ rs) h p k = (
   (p.0, (let z = rw (eq-eqb r r refl) at (k.0 r) in omega (arith, p.0)), eq-eqb e.number a (sym h.0)),
@@ -68,7 +68,7 @@ back_sum : (b : Book) (es : List Order) → sum_of row_traded (all_back b es) �
 back_sum b [] = refl
 back_sum b (e ∷ es) = omega (arith, back_sum b es)
 
-back_names : (b : Book) (es : List Order) → All (λ e. 0 < resting e.number b) es → All (Names b Close) (all_back b es)
+back_names : (b : Book) (es : List Order) → AllByRecursion (λ e. 0 < resting e.number b) es → AllByRecursion (Names b Close) (all_back b es)
 back_names b [] h = tt
 back_names b (e ∷ es) h = ((h.0, inl h.0), back_names b es h.1)
 
@@ -82,7 +82,7 @@ module _ (rank : Ranking) (O : TotalOrder rank.good) (deal : Deal) (D : Lawful d
   pub record MetRows (b : Book) (e : Order) (r : Traded Book) : Type 0 where
     pub traded : sum_of row_traded r.rows + r.left ≡ e.quantity
     pub given : sum_of row_given_back r.rows ≡ 0
-    pub names : All (Names b (Enter e)) r.rows
+    pub names : AllByRecursion (Names b (Enter e)) r.rows
     pub few : length r.rows ≤ 384
 
   pub met_rows : (b : Book) (e : Order) → SoundBook rank b → MetRows b e (trade rank deal e (arrived e b))
@@ -92,7 +92,7 @@ module _ (rank : Ranking) (O : TotalOrder rank.good) (deal : Deal) (D : Lawful d
       let k : Ranked rank O b = sound_ranked rank O b s in
       let r : Traded Book = trade rank deal e (arrived e b) in
       let T : AfterTrade b.lot e b r = after_trading rank deal D b.lot e b f in
-      let ar : All (Arrives e.number) r.rows = (T.even e.number).arrives in
+      let ar : AllByRecursion (Arrives e.number) r.rows = (T.even e.number).arrives in
       let t : Side = other e.side in
       let reach : ℕ → Bool = in_reach rank (arrived e b) e in
       let c : Core rank O deal D t b.lot e.number e.quantity reach (side t b) b.steps = core rank O deal D t b.lot e.number e.quantity reach (side t b) b.steps k.steps (side_good b.lot t b f.sides) (sorted_side rank O t b k) in
@@ -100,7 +100,7 @@ module _ (rank : Ranking) (O : TotalOrder rank.good) (deal : Deal) (D : Lawful d
       record {
         traded = omega (arith, trades_sum e.number r.rows ar, came);
         given = trades_give_nothing e.number r.rows ar;
-        names = trade_names b e r.rows ar (subst (λ rs. All (λ r. 0 < row_traded r) rs) (sym c.rows') (rows_some e.number c.mets'))
+        names = trade_names b e r.rows ar (subst (λ rs. AllByRecursion (λ r. 0 < row_traded r) rs) (sym c.rows') (rows_some e.number c.mets'))
             (All-weaker (λ x. (n : ℕ) → as_resting n x ≤ sum_of (as_resting n) r.rows) (λ x. (n : ℕ) → as_resting n x ≤ resting n b) (λ x h n. omega (arith, h n, (T.even n).rest)) r.rows (all_below_each as_resting r.rows));
         few = omega (
           arith,

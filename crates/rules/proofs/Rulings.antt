@@ -1,7 +1,7 @@
 -- Every call keeps a book fit, and what an order had and brought is in the rows or rests. Assumes nothing.
 use Rattle.std.proofs.Common.{◌≡◌, ℕ, ◌-◌, ◌%◌, ◌<◌, ◌≤◌, Bool, true, false, cond, ◌&&◌, eqb, leb, List, [], ◌∷◌, Some, None, Option, refl, ap, ◌∙◌, arith}
 use mathlib.Core.Bool.{false≢true}
-use Rattle.std.specs.List.{AllByRecursion as All}
+use Rattle.std.specs.List.{AllByRecursion}
 use Rattle.std.proofs.lemmas.Bool.{and_parts, not-false, ne_eqb, leb-true, leb-false}
 use Rattle.allocation.specs.Dealings.{Deal, Lawful}
 use Rattle.rules.specs.declared.orders.Kind.{Kind}
@@ -98,11 +98,11 @@ pub some_none : {A : Type 0} (x : A) → Some x ≡ None → ⊥
 unfolding is_some
 some_none x e = let z : ◌≡◌ {A = ℕ} 1 0 = ap is_some e in omega arith
 
-pub none_applies : (xs : List (Refusal × Bool)) → first xs ≡ None → All (λ x. x.1 ≡ false) xs
+pub none_applies : (xs : List (Refusal × Bool)) → first xs ≡ None → AllByRecursion (λ x. x.1 ≡ false) xs
 none_applies [] h = tt
 none_applies (x ∷ xs) h = go x.1 refl h (none_applies xs)
   where
-    go : (t : Bool) → x.1 ≡ t → cond t (Some x.0) (first xs) ≡ None → (first xs ≡ None → All {X = Refusal × Bool} (λ x. x.1 ≡ false) xs) → (x.1 ≡ false) × All {X = Refusal × Bool} (λ x. x.1 ≡ false) xs
+    go : (t : Bool) → x.1 ≡ t → cond t (Some x.0) (first xs) ≡ None → (first xs ≡ None → AllByRecursion {X = Refusal × Bool} (λ x. x.1 ≡ false) xs) → (x.1 ≡ false) × AllByRecursion {X = Refusal × Bool} (λ x. x.1 ≡ false) xs
     go true e h more = absurd (some_none x.0 h)
     go false e h more = (e, more h)
 

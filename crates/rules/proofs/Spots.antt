@@ -1,6 +1,6 @@
 -- One level of a side, through every change of the side. Assumes nothing.
 use Rattle.std.proofs.Common.{◌≡◌, ℕ, ◌+◌, ◌-◌, ◌<◌, ◌≤◌, Bool, true, false, cond, eqb, List, [], ◌∷◌, map, filter, sym, refl, ap, ◌∙◌, subst, arith}
-use Rattle.std.specs.List.{AllByRecursion as All}
+use Rattle.std.specs.List.{AllByRecursion}
 use Rattle.std.proofs.lemmas.Bool.{eqb-true, eqb-false, eq-eqb, ne_eqb, or_parts, or_from}
 use Rattle.std.proofs.ByRecursion.{All-weaker}
 use Rattle.allocation.specs.Rankings.{TotalOrder}
@@ -28,7 +28,7 @@ use Rattle.rules.proofs.Leads.{Mine, MineAt, got, interest_got}
 
 -- ## Levels by price
 
-pub good_at : (lot v : ℕ) (ls : List Level) → 0 < lot → All (SoundLevel lot) ls → SoundLevel lot (level_at v ls)
+pub good_at : (lot v : ℕ) (ls : List Level) → 0 < lot → AllByRecursion (SoundLevel lot) ls → SoundLevel lot (level_at v ls)
 good_at lot v [] pos h = empty_good lot v pos
 good_at lot v (l ∷ ls) pos h = go (eqb l.price v) (good_at lot v ls pos h.1)
   where
@@ -36,7 +36,7 @@ good_at lot v (l ∷ ls) pos h = go (eqb l.price v) (good_at lot v ls pos h.1)
     go true ih = h.0
     go false ih = ih
 
-pub mine_at : (es : List Order) (v : ℕ) (ls : List Level) → All (MineAt es) ls → MineAt es (level_at v ls)
+pub mine_at : (es : List Order) (v : ℕ) (ls : List Level) → AllByRecursion (MineAt es) ls → MineAt es (level_at v ls)
 mine_at es v [] h = (tt, tt)
 mine_at es v (l ∷ ls) h = go (eqb l.price v) (mine_at es v ls h.1)
   where
@@ -49,7 +49,7 @@ none_at v [] h = refl
 none_at v (l ∷ ls) h = let k = or_parts (eqb l.price v) (has v (prices ls)) h in rw k.0 (none_at v ls k.1)
 
 module _ (rank : Ranking) (O : TotalOrder rank.good) (s : Side) where
-  worse_not : (v : ℕ) (vs : List ℕ) → All (λ w. better rank s v w ≡ true) vs → has v vs ≡ false
+  worse_not : (v : ℕ) (vs : List ℕ) → AllByRecursion (λ w. better rank s v w ≡ true) vs → has v vs ≡ false
   worse_not v [] h = refl
   worse_not v (w ∷ vs) h = or_from (eqb w v) (has v vs) (ne_eqb w v (λ e. not_itself rank O s v w (sym e) h.0)) (worse_not v vs h.1)
 
@@ -153,7 +153,7 @@ kept_at P f v (l ∷ ls) o none h = go (f l) (eqb l.price v) refl h (kept_at P f
 -- ## Kind.Reserve on one level
 
 -- what a participant gets of amounts that go to one order
-got_order : (es : List Order) (p n : ℕ) (xs : List ℕ) (ps : List Part) → All (Mine es) ps → Under xs (pieces n ps) → got p ps xs ≡ cond (owns p es n) (sum xs) 0
+got_order : (es : List Order) (p n : ℕ) (xs : List ℕ) (ps : List Part) → AllByRecursion (Mine es) ps → Under xs (pieces n ps) → got p ps xs ≡ cond (owns p es n) (sum xs) 0
 got_order es p n [] [] m h = grind arith
 got_order es p n [] (x ∷ ps) m h = absurd h
 got_order es p n (y ∷ xs) [] m h = absurd h
@@ -173,7 +173,7 @@ got_order es p n (y ∷ xs) (x ∷ ps) m h = go (eqb x.order n) refl h.0 (got_or
         omega_ends false true i = omega arith
         omega_ends false false i = omega arith
 
-interest_order : (es : List Order) (p n : ℕ) (ps : List Part) → All (Mine es) ps → cond (owns p es n) (of_order n ps) 0 ≤ interest p (claims ps)
+interest_order : (es : List Order) (p n : ℕ) (ps : List Part) → AllByRecursion (Mine es) ps → cond (owns p es n) (of_order n ps) 0 ≤ interest p (claims ps)
 interest_order es p n [] m = grind arith
 interest_order es p n (x ∷ ps) m = go (eqb x.order n) refl (interest_order es p n ps m.1)
   where
@@ -190,7 +190,7 @@ interest_order es p n (x ∷ ps) m = go (eqb x.order n) refl (interest_order es 
         split false i = omega arith
 
 -- one of two parts stays: so does the interest
-pub rejoined_interest : (es : List Order) (p n : ℕ) (ps : List Part) → All (Mine es) ps → sum (last_alone (pieces n ps)) < of_order n ps → 0 < interest p (claims ps) → 0 < interest p (claims (lowered ps (last_alone (pieces n ps))))
+pub rejoined_interest : (es : List Order) (p n : ℕ) (ps : List Part) → AllByRecursion (Mine es) ps → sum (last_alone (pieces n ps)) < of_order n ps → 0 < interest p (claims ps) → 0 < interest p (claims (lowered ps (last_alone (pieces n ps))))
 rejoined_interest es p n ps m two some =
     let xs : List ℕ = last_alone (pieces n ps) in
     let u : Under xs (pieces n ps) = last_under (pieces n ps) in

@@ -1,6 +1,6 @@
 -- The steps at one price, as stages: a stage with quantity left has trade all of its parts. Assumes nothing.
 use Rattle.std.proofs.Common.{◌≡◌, ℕ, zero, suc, ◌+◌, ◌-◌, ◌<◌, ◌≤◌, Bool, true, false, cond, not, leb, List, [], ◌∷◌, map, filter, sym, refl, ◌∙◌, subst, arith}
-use Rattle.std.specs.List.{AllByRecursion as All}
+use Rattle.std.specs.List.{AllByRecursion}
 use Rattle.std.proofs.lemmas.Bool.{le-leb, lt-leb}
 use Rattle.allocation.specs.Wheels.{Wheel}
 use Rattle.allocation.specs.ByTime.{shares_in_order}
@@ -74,7 +74,7 @@ sum_under (x ∷ xs) [] h = absurd h
 sum_under (x ∷ xs) (y ∷ ys) h = omega (arith, h.0, sum_under xs ys h.1)
 
 -- if all marked parts are wholly taken, the others are left as they were
-rest_after : (ps : List Part) (xs : List ℕ) → All (λ p. 0 < p.quantity) ps → Under xs (mask ps) → sum xs ≡ sum (mask ps) → lowered ps xs ≡ filter (λ p. not p.marked) ps
+rest_after : (ps : List Part) (xs : List ℕ) → AllByRecursion (λ p. 0 < p.quantity) ps → Under xs (mask ps) → sum xs ≡ sum (mask ps) → lowered ps xs ≡ filter (λ p. not p.marked) ps
 rest_after [] xs pos h e = refl
 rest_after (p ∷ ps) [] pos h e = absurd h
 rest_after (p ∷ ps) (x ∷ xs) pos h e =

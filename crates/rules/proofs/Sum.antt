@@ -1,6 +1,6 @@
 -- The sum law. Assumes nothing.
 use Rattle.std.proofs.Common.{◌≡◌, ℕ, ◌+◌, ◌-◌, ◌<◌, ◌≤◌, Bool, true, false, cond, eqb, ◌⊎◌, List, [], ◌∷◌, refl, ◌∙◌, subst, inl, inr, arith}
-use Rattle.std.specs.List.{AllByRecursion as All}
+use Rattle.std.specs.List.{AllByRecursion}
 use Rattle.std.proofs.lemmas.Bool.Decides.{nat_tests}
 use Rattle.std.proofs.lemmas.Bool.{eqb-true, eq-eqb, cases_eq}
 use Rattle.std.proofs.ByRecursion.{All-weaker}
@@ -119,7 +119,7 @@ module _ (rank : Ranking) (deal : Deal) (D : Lawful deal) (lot : ℕ) where
   abbrev New : Book → Event → Type 0
   New b v = (e : Order) → Entered v e → b.last < e.number
 
-  all_new : (b : Book) (asks : List Ask) → Fit lot b → All (New b) (run rank deal b asks)
+  all_new : (b : Book) (asks : List Ask) → Fit lot b → AllByRecursion (New b) (run rank deal b asks)
   all_new b [] f = tt
   all_new b (a ∷ asks) f =
       let x : Outcome = rule rank deal b a.0 a.1 in
@@ -131,7 +131,7 @@ module _ (rank : Ranking) (deal : Deal) (D : Lawful deal) (lot : ℕ) where
   abbrev OnceOnly : List Event → Event → Type 0
   OnceOnly past v = (e : Order) → Entered v e → sum_of (brought e.number) past ≡ e.quantity
 
-  pub once_only : (b : Book) (asks : List Ask) → Fit lot b → All (OnceOnly (run rank deal b asks)) (run rank deal b asks)
+  pub once_only : (b : Book) (asks : List Ask) → Fit lot b → AllByRecursion (OnceOnly (run rank deal b asks)) (run rank deal b asks)
   once_only b [] f = tt
   once_only b (a ∷ asks) f =
       let x : Outcome = rule rank deal b a.0 a.1 in

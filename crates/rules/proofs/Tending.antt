@@ -1,7 +1,7 @@
 -- Orderly sides stay so through reserve and placing. Assumes nothing.
 use Rattle.std.proofs.Common.{◌≡◌, ℕ, ◌+◌, ◌-◌, ◌<◌, ◌≤◌, min, Bool, true, false, cond, not, ◌&&◌, eqb, leb, List, [], ◌∷◌, fold, sym, refl, subst, arith}
 use mathlib.Core.Bool.{false≢true}
-use Rattle.std.specs.List.{AllByRecursion as All}
+use Rattle.std.specs.List.{AllByRecursion}
 use Rattle.std.proofs.lemmas.Bool.{eq-eqb, or_parts}
 use Rattle.allocation.specs.Rankings.{TotalOrder}
 use Rattle.rules.specs.declared.orders.Side.{Side}
@@ -37,7 +37,7 @@ no_mark (p ∷ ps) h = let k = or_parts p.marked (any (λ p. p.marked) ps) h in 
 abbrev pub Clear : Bool → ℕ → Level → Type 0
 Clear mark v l = mark ≡ true → l.price ≡ v → marked_parts l.shown.parts ≡ 0
 
-pub all_clear : (mark : Bool) (v : ℕ) (ls : List Level) → (mark ≡ true → mark_at v ls ≡ false) → All (Clear mark v) ls
+pub all_clear : (mark : Bool) (v : ℕ) (ls : List Level) → (mark ≡ true → mark_at v ls ≡ false) → AllByRecursion (Clear mark v) ls
 all_clear mark v [] h = tt
 all_clear mark v (l ∷ ls) h = (
   (λ m same. no_mark l.shown.parts (rw (eq-eqb l.price v same) at (or_parts (eqb l.price v && any (λ p. p.marked) l.shown.parts) (mark_at v ls) (h m)).0)),
@@ -58,15 +58,15 @@ earned_clear rank s v n b h = go (leb b.lot n) (beats rank s v (best b.lot (side
 -- ## Reserve
 
 abbrev pub Both : List Order → Book → Type 0
-Both es b = All (Orderly es Buy) b.buys × All (Orderly es Sell) b.sells
+Both es b = AllByRecursion (Orderly es Buy) b.buys × AllByRecursion (Orderly es Sell) b.sells
 
-pub orderly_side : (es : List Order) (s : Side) (b : Book) → Both es b → All (Orderly es s) (side s b)
+pub orderly_side : (es : List Order) (s : Side) (b : Book) → Both es b → AllByRecursion (Orderly es s) (side s b)
 orderly_side es Buy b h = h.0
 orderly_side es Sell b h = h.1
 
 module _ (rank : Ranking) (O : TotalOrder rank.good) (lot : ℕ) (pos : 0 < lot) where
-  pub joined_side : (es : List Order) (s : Side) (v n : ℕ) (ls : List Level) → BestFirst rank s (prices ls) → All (SoundLevel lot) ls → All (Orderly es s) ls
-      → All (λ l. Orderly es s l × (l.price ≡ v → LowShowsOne lot n l)) (on_price rank s v (join_hidden lot n) ls)
+  pub joined_side : (es : List Order) (s : Side) (v n : ℕ) (ls : List Level) → BestFirst rank s (prices ls) → AllByRecursion (SoundLevel lot) ls → AllByRecursion (Orderly es s) ls
+      → AllByRecursion (λ l. Orderly es s l × (l.price ≡ v → LowShowsOne lot n l)) (on_price rank s v (join_hidden lot n) ls)
   joined_side es s v n ls o g h =
       on_price_to rank O s (λ l. SoundLevel lot l × Orderly es s l) (λ l. Orderly es s l × (l.price ≡ v → LowShowsOne lot n l)) v (join_hidden lot n) ls o
       (orderly_joined es s lot n (nothing_at v) (empty_good lot v pos) (orderly_nothing es s v), λ _. joined_shows_one es s lot n (nothing_at v) (empty_good lot v pos) (orderly_nothing es s v))
@@ -74,16 +74,16 @@ module _ (rank : Ranking) (O : TotalOrder rank.good) (lot : ℕ) (pos : 0 < lot)
       (λ l ne k. (k.1, λ same. absurd (ne same)))
       (all_both (SoundLevel lot) (Orderly es s) ls g h)
 
-  renewed_side : (es : List Order) (s : Side) (e : Order) (mark : Bool) (ls : List Level) → BestFirst rank s (prices ls) → All (SoundLevel lot) ls
-      → ((n : ℕ) (m : Bool) → listed es s e.price (part e.number e.participant n m) ≡ true) → All (Orderly es s) ls
+  renewed_side : (es : List Order) (s : Side) (e : Order) (mark : Bool) (ls : List Level) → BestFirst rank s (prices ls) → AllByRecursion (SoundLevel lot) ls
+      → ((n : ℕ) (m : Bool) → listed es s e.price (part e.number e.participant n m) ≡ true) → AllByRecursion (Orderly es s) ls
       → (let xs : List Level = on_price rank s e.price (join_hidden lot e.number) ls in
-      (mark ≡ true → mark_at e.price xs ≡ false) → All (Orderly es s) (on_price rank s e.price (show_anew lot e mark) xs))
+      (mark ≡ true → mark_at e.price xs ≡ false) → AllByRecursion (Orderly es s) (on_price rank s e.price (show_anew lot e mark) xs))
   renewed_side es s e mark ls o g own h clear =
       let v : ℕ = e.price in
       let n : ℕ = e.number in
       let xs : List Level = on_price rank s v (join_hidden lot n) ls in
       let Q : Level → Type 0 = λ l. Orderly es s l × (l.price ≡ v → LowShowsOne lot n l) in
-      let q : All Q xs = joined_side es s v n ls o g h in
+      let q : AllByRecursion Q xs = joined_side es s v n ls o g h in
       on_price_to rank O s (λ l. Q l × Clear mark v l) (Orderly es s) v (show_anew lot e mark) xs (on_price_sorted rank O s v (join_hidden lot n) ls (join_hidden_still lot n) o)
       (orderly_shown_anew es s lot n e mark (nothing_at v) refl own (λ _. omega arith) (λ _. refl) (orderly_nothing es s v))
       (λ l same k. orderly_shown_anew es s lot n e mark l refl (λ m t. subst (λ u. listed es s u (part n e.participant m t) ≡ true) (sym same) (own m t)) (k.0.1 same) (λ z. k.1 z same) k.0.0)
@@ -98,7 +98,7 @@ module _ (rank : Ranking) (O : TotalOrder rank.good) (lot : ℕ) (pos : 0 < lot)
   renewed_both es e Buy k b is f r own h =
       let c : Book = with_side Buy (on_price rank Buy e.price (join_hidden k e.number) b.buys) b in
       let mark : Bool = earns_mark rank Buy e.price (min e.display (hidden_of e.number (side Buy c))) c in (
-        subst (λ i. (mark ≡ true → mark_at e.price (on_price rank Buy e.price (join_hidden i e.number) b.buys) ≡ false) → All (Orderly es Buy) (on_price rank Buy e.price (show_anew i e mark) (on_price rank Buy e.price (join_hidden i e.number) b.buys))) (sym is)
+        subst (λ i. (mark ≡ true → mark_at e.price (on_price rank Buy e.price (join_hidden i e.number) b.buys) ≡ false) → AllByRecursion (Orderly es Buy) (on_price rank Buy e.price (show_anew i e mark) (on_price rank Buy e.price (join_hidden i e.number) b.buys))) (sym is)
             (renewed_side es Buy e mark b.buys r.buys f.buys own h.0) (earned_clear rank Buy e.price (min e.display (hidden_of e.number (side Buy c))) c),
         h.1,
       )
@@ -106,7 +106,7 @@ module _ (rank : Ranking) (O : TotalOrder rank.good) (lot : ℕ) (pos : 0 < lot)
       let c : Book = with_side Sell (on_price rank Sell e.price (join_hidden k e.number) b.sells) b in
       let mark : Bool = earns_mark rank Sell e.price (min e.display (hidden_of e.number (side Sell c))) c in (
         h.0,
-        subst (λ i. (mark ≡ true → mark_at e.price (on_price rank Sell e.price (join_hidden i e.number) b.sells) ≡ false) → All (Orderly es Sell) (on_price rank Sell e.price (show_anew i e mark) (on_price rank Sell e.price (join_hidden i e.number) b.sells))) (sym is)
+        subst (λ i. (mark ≡ true → mark_at e.price (on_price rank Sell e.price (join_hidden i e.number) b.sells) ≡ false) → AllByRecursion (Orderly es Sell) (on_price rank Sell e.price (show_anew i e mark) (on_price rank Sell e.price (join_hidden i e.number) b.sells))) (sym is)
             (renewed_side es Sell e mark b.sells r.sells f.sells own h.1) (earned_clear rank Sell e.price (min e.display (hidden_of e.number (side Sell c))) c),
       )
 
@@ -135,7 +135,7 @@ module _ (rank : Ranking) (O : TotalOrder rank.good) (lot : ℕ) (pos : 0 < lot)
       go true = renewed_both es e e.side b.lot b m.sides.is m.sides m.ranked own m.both
       go false = m.both
 
-  pub all_midway : (es : List Order) (b : Book) (xs : List Order) → All Displays xs → All (OwnListed es) xs → Midway es b → Midway es (fold (replenish_order rank) b xs)
+  pub all_midway : (es : List Order) (b : Book) (xs : List Order) → AllByRecursion Displays xs → AllByRecursion (OwnListed es) xs → Midway es b → Midway es (fold (replenish_order rank) b xs)
   all_midway es b [] d own m = m
   all_midway es b (x ∷ xs) d own m = all_midway es (replenish_order rank b x) xs d.1 own.1 (midway_renewed es b x d.0 own.0 m)
 
@@ -144,14 +144,14 @@ module _ (rank : Ranking) (O : TotalOrder rank.good) (lot : ℕ) (pos : 0 < lot)
   abbrev pub Absent : ℕ → Level → Type 0
   Absent n l = (of_order n l.shown.parts ≡ 0) × (of_order n l.hidden.parts ≡ 0)
 
-  pub all_absent : (n : ℕ) (ls : List Level) → of_side n ls ≡ 0 → All (Absent n) ls
+  pub all_absent : (n : ℕ) (ls : List Level) → of_side n ls ≡ 0 → AllByRecursion (Absent n) ls
   all_absent n [] h = tt
   all_absent n (l ∷ ls) h = ((omega arith, omega arith), all_absent n ls (omega arith))
 
-  placed_side : (es : List Order) (s : Side) (v n : ℕ) (mark : Bool) (f : Level → Level) (ls : List Level) → BestFirst rank s (prices ls) → All (SoundLevel lot) ls → All (Orderly es s) ls → of_side n ls ≡ 0
+  placed_side : (es : List Order) (s : Side) (v n : ℕ) (mark : Bool) (f : Level → Level) (ls : List Level) → BestFirst rank s (prices ls) → AllByRecursion (SoundLevel lot) ls → AllByRecursion (Orderly es s) ls → of_side n ls ≡ 0
       → (mark ≡ true → mark_at v ls ≡ false)
       → ((l : Level) → l.price ≡ v → Orderly es s l → parts_of n l.shown.parts ≡ 0 → parts_of n l.hidden.parts ≡ 0 → (mark ≡ true → marked_parts l.shown.parts ≡ 0) → Orderly es s (f l))
-      → All (Orderly es s) (on_price rank s v f ls)
+      → AllByRecursion (Orderly es s) (on_price rank s v f ls)
   placed_side es s v n mark f ls o g h absent clear step =
       on_price_to rank O s (λ l. (SoundLevel lot l × Orderly es s l) × (Absent n l × Clear mark v l)) (Orderly es s) v f ls o
       (step (nothing_at v) refl (orderly_nothing es s v) refl refl (λ _. refl))
@@ -188,7 +188,7 @@ module _ (rank : Ranking) (O : TotalOrder rank.good) (lot : ℕ) (pos : 0 < lot)
       go true = first
       go false = put_hidden_orderly es s e (n - d) (put_shown x l) (own (n - d) false) c first
 
-  on_side : (es : List Order) (e : Order) (s : Side) (f : Level → Level) (b : Book) → Both es b → All (Orderly es s) (on_price rank s e.price f (side s b)) → Both es (with_side s (on_price rank s e.price f (side s b)) b)
+  on_side : (es : List Order) (e : Order) (s : Side) (f : Level → Level) (b : Book) → Both es b → AllByRecursion (Orderly es s) (on_price rank s e.price f (side s b)) → Both es (with_side s (on_price rank s e.price f (side s b)) b)
   on_side es e Buy f b h k = (k, h.1)
   on_side es e Sell f b h k = (h.0, k)
 

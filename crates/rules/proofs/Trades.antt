@@ -1,6 +1,6 @@
 -- Trading keeps a side good, and what parts lose is what rows say. Assumes nothing.
 use Rattle.std.proofs.Common.{◌≡◌, ℕ, zero, suc, ◌+◌, ◌-◌, ◌≤◌, min, Bool, true, false, cond, eqb, List, [], ◌∷◌, map, sym, refl, ap, subst, arith}
-use Rattle.std.specs.List.{AllByRecursion as All}
+use Rattle.std.specs.List.{AllByRecursion}
 use Rattle.std.proofs.lemmas.Bool.Decides.{nat_tests}
 use Rattle.std.proofs.ByRecursion.{All-append}
 use Rattle.allocation.specs.Wheels.{Wheel}
@@ -56,12 +56,12 @@ abbrev pub Arrives : ℕ → Row → Type 0
 Arrives n (Trade s r a v q) = a ≡ n
 Arrives n (GivenBack o q) = ⊥
 
-rows_arrive : (s : Step) (a v : ℕ) (ps : List Part) (xs : List ℕ) → All (Arrives a) (rows_of s a v ps xs)
+rows_arrive : (s : Step) (a v : ℕ) (ps : List Part) (xs : List ℕ) → AllByRecursion (Arrives a) (rows_of s a v ps xs)
 rows_arrive s a v [] xs = tt
 rows_arrive s a v (p ∷ ps) [] = tt
 rows_arrive s a v (p ∷ ps) (x ∷ xs) = go (eqb x 0) (rows_arrive s a v ps xs)
   where
-    go : (t : Bool) → All (Arrives a) (rows_of s a v ps xs) → All (Arrives a) (cond t (rows_of s a v ps xs) (Trade s p.order a v x ∷ rows_of s a v ps xs))
+    go : (t : Bool) → AllByRecursion (Arrives a) (rows_of s a v ps xs) → AllByRecursion (Arrives a) (cond t (rows_of s a v ps xs) (Trade s p.order a v x ∷ rows_of s a v ps xs))
     go true ih = ih
     go false ih = (refl, ih)
 
@@ -134,7 +134,7 @@ pub record Even (n arriving was q : ℕ) (rows : List Row) (is left : ℕ) : Typ
   pub came : cond (eqb arriving n) q 0 ≡ sum_of (as_arriving n) rows + cond (eqb arriving n) left 0
   pub less : left ≤ q
   pub back : sum_of (given_back_in n) rows ≡ 0
-  pub arrives : All (Arrives arriving) rows
+  pub arrives : AllByRecursion (Arrives arriving) rows
 
 module _ (deal : Deal) (D : Lawful deal) (lot arriving : ℕ) where
   pub trade_price_good : (ss : List Step) (q : ℕ) (l : Level) → SoundLevel lot l → SoundLevel lot (trade_price deal lot arriving ss q l).rest
@@ -181,13 +181,13 @@ module _ (deal : Deal) (D : Lawful deal) (lot arriving : ℕ) where
   trade_reached_even n ss true q l g = trade_price_even n ss q l g
   trade_reached_even n ss false q l g = record { rest = omega arith; came = omega arith; less = omega arith; back = refl; arrives = tt }
 
-  pub trade_side_good : (ss : List Step) (reaches : ℕ → Bool) (q : ℕ) (ls : List Level) → All (SoundLevel lot) ls → All (SoundLevel lot) (trade_side deal lot arriving ss reaches q ls).rest
+  pub trade_side_good : (ss : List Step) (reaches : ℕ → Bool) (q : ℕ) (ls : List Level) → AllByRecursion (SoundLevel lot) ls → AllByRecursion (SoundLevel lot) (trade_side deal lot arriving ss reaches q ls).rest
   unfolding trade_side
   trade_side_good ss reaches q [] g = tt
   trade_side_good ss reaches q (l ∷ ls) g =
       (trade_reached_good ss (reaches l.price) q l g.0, trade_side_good ss reaches (trade_reached deal lot arriving ss (reaches l.price) q l).left ls g.1)
 
-  pub trade_side_even : (n : ℕ) (ss : List Step) (reaches : ℕ → Bool) (q : ℕ) (ls : List Level) → All (SoundLevel lot) ls
+  pub trade_side_even : (n : ℕ) (ss : List Step) (reaches : ℕ → Bool) (q : ℕ) (ls : List Level) → AllByRecursion (SoundLevel lot) ls
       → (let r : Traded (List Level) = trade_side deal lot arriving ss reaches q ls in Even n arriving (of_side n ls) q r.rows (of_side n r.rest) r.left)
   unfolding trade_side
   trade_side_even n ss reaches q [] g = record { rest = omega arith; came = omega arith; less = omega arith; back = refl; arrives = tt }
@@ -210,7 +210,7 @@ module _ (deal : Deal) (D : Lawful deal) (lot arriving : ℕ) where
 
 -- ## Rows name an order once: the arriving order does not rest
 
-pub named_once : (n a : ℕ) (rs : List Row) → All (Arrives a) rs → sum_of (as_resting a) rs ≡ 0 → sum_of (traded_in n) rs ≡ sum_of (as_resting n) rs + sum_of (as_arriving n) rs
+pub named_once : (n a : ℕ) (rs : List Row) → AllByRecursion (Arrives a) rs → sum_of (as_resting a) rs ≡ 0 → sum_of (traded_in n) rs ≡ sum_of (as_resting n) rs + sum_of (as_arriving n) rs
 named_once n a [] h z = refl
 named_once n a (Trade s r b v q ∷ rs) h z = let e = h.0 in let ih = named_once n a rs h.1 (omega arith) in grind (arith, nat_tests)
 named_once n a (GivenBack o q ∷ rs) h z = absurd h.0

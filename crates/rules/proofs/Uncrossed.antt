@@ -1,7 +1,7 @@
 -- A book that is not crossed against itself stays so. Assumes nothing.
 use Rattle.std.proofs.Common.{◌≡◌, ℕ, ◌-◌, min, Bool, true, false, cond, not, ◌&&◌, List, [], ◌∷◌, fold}
 use mathlib.Core.Bool.{false≢true}
-use Rattle.std.specs.List.{AllByRecursion as All}
+use Rattle.std.specs.List.{AllByRecursion}
 use Rattle.std.proofs.ByRecursion.{All-weaker}
 use Rattle.rules.specs.declared.orders.Side.{Side}
 use Rattle.rules.specs.declared.orders.Side.TheVariants.{Sell, Buy}
@@ -17,12 +17,12 @@ use Rattle.rules.proofs.Members.{all_both}
 use Rattle.rules.proofs.AtPrice.{on_price_each}
 use Rattle.rules.proofs.Walks.{Held, held_joined, held_shown_anew}
 
-pub held_weaker : (P R : ℕ → Type 0) → ((v : ℕ) → P v → R v) → (ls : List Level) → All (Held P) ls → All (Held R) ls
+pub held_weaker : (P R : ℕ → Type 0) → ((v : ℕ) → P v → R v) → (ls : List Level) → AllByRecursion (Held P) ls → AllByRecursion (Held R) ls
 held_weaker P R f ls h =
     All-weaker (Held P) (Held R)
     (λ l k. (All-weaker (λ (_ : Part). P l.price) (λ _. R l.price) (λ _ x. f l.price x) l.shown.parts k.0, All-weaker (λ (_ : Part). P l.price) (λ _. R l.price) (λ _ x. f l.price x) l.hidden.parts k.1)) ls h
 
-pub held_and : (P R : ℕ → Type 0) (ls : List Level) → All (Held P) ls → All (Held R) ls → All (Held (λ v. P v × R v)) ls
+pub held_and : (P R : ℕ → Type 0) (ls : List Level) → AllByRecursion (Held P) ls → AllByRecursion (Held R) ls → AllByRecursion (Held (λ v. P v × R v)) ls
 held_and P R [] h k = tt
 held_and P R (l ∷ ls) h k = (
   (all_both (λ (_ : Part). P l.price) (λ _. R l.price) l.shown.parts h.0.0 k.0.0, all_both (λ (_ : Part). P l.price) (λ _. R l.price) l.hidden.parts h.0.1 k.0.1),
@@ -31,55 +31,55 @@ held_and P R (l ∷ ls) h k = (
 
 -- no part of the one side is in reach of a part of the other
 abbrev pub Apart : Ranking → List Level → List Level → Type 0
-Apart rank buys sells = All (Held (λ v. All (Held (λ w. good rank Sell w v ≡ false)) sells)) buys
+Apart rank buys sells = AllByRecursion (Held (λ v. AllByRecursion (Held (λ w. good rank Sell w v ≡ false)) sells)) buys
 
 -- sides change, and no price comes to hold parts that held none
-pub apart_changed : (rank : Ranking) (bs bs' ss ss' : List Level) → ((P : ℕ → Type 0) → All (Held P) bs → All (Held P) bs') → ((P : ℕ → Type 0) → All (Held P) ss → All (Held P) ss') → Apart rank bs ss → Apart rank bs' ss'
+pub apart_changed : (rank : Ranking) (bs bs' ss ss' : List Level) → ((P : ℕ → Type 0) → AllByRecursion (Held P) bs → AllByRecursion (Held P) bs') → ((P : ℕ → Type 0) → AllByRecursion (Held P) ss → AllByRecursion (Held P) ss') → Apart rank bs ss → Apart rank bs' ss'
 apart_changed rank bs bs' ss ss' f g h =
-    held_weaker (λ v. All (Held (λ w. good rank Sell w v ≡ false)) ss) (λ v. All (Held (λ w. good rank Sell w v ≡ false)) ss') (λ v k. g (λ w. good rank Sell w v ≡ false) k) bs'
-    (f (λ v. All (Held (λ w. good rank Sell w v ≡ false)) ss) h)
+    held_weaker (λ v. AllByRecursion (Held (λ w. good rank Sell w v ≡ false)) ss) (λ v. AllByRecursion (Held (λ w. good rank Sell w v ≡ false)) ss') (λ v k. g (λ w. good rank Sell w v ≡ false) k) bs'
+    (f (λ v. AllByRecursion (Held (λ w. good rank Sell w v ≡ false)) ss) h)
 
-everyone : (X : Type 0) (ps : List Part) → X → All (λ (_ : Part). X) ps
+everyone : (X : Type 0) (ps : List Part) → X → AllByRecursion (λ (_ : Part). X) ps
 everyone X [] x = tt
 everyone X (p ∷ ps) x = (x, everyone X ps x)
 
 -- ## All prices, and those with parts
 
-pub price_held : (P : ℕ → Type 0) (ls : List Level) → All (λ l. P l.price) ls → All (Held P) ls
+pub price_held : (P : ℕ → Type 0) (ls : List Level) → AllByRecursion (λ l. P l.price) ls → AllByRecursion (Held P) ls
 price_held P ls h = All-weaker (λ l. P l.price) (Held P) (λ l x. (everyone (P l.price) l.shown.parts x, everyone (P l.price) l.hidden.parts x)) ls h
 
 held_price : (P : ℕ → Type 0) (l : Level) → holds l ≡ true → Held P l → P l.price
 held_price P l = go l.shown.parts l.hidden.parts
   where
-    go : (ps qs : List Part) → not (empty ps && empty qs) ≡ true → All (λ (_ : Part). P l.price) ps × All (λ (_ : Part). P l.price) qs → P l.price
+    go : (ps qs : List Part) → not (empty ps && empty qs) ≡ true → AllByRecursion (λ (_ : Part). P l.price) ps × AllByRecursion (λ (_ : Part). P l.price) qs → P l.price
     go [] [] h a = absurd (false≢true h)
     go [] (q ∷ qs) h a = a.1.0
     go (p ∷ ps) qs h a = a.0.0
 
-pub held_prices : (P : ℕ → Type 0) (ls : List Level) → All (λ l. holds l ≡ true) ls → All (Held P) ls → All (λ l. P l.price) ls
+pub held_prices : (P : ℕ → Type 0) (ls : List Level) → AllByRecursion (λ l. holds l ≡ true) ls → AllByRecursion (Held P) ls → AllByRecursion (λ l. P l.price) ls
 held_prices P [] h a = tt
 held_prices P (l ∷ ls) h a = (held_price P l h.0 a.0, held_prices P ls h.1 a.1)
 
 pub uncrossed_apart : (rank : Ranking) (bs ss : List Level) → Uncrossed rank bs ss → Apart rank bs ss
 uncrossed_apart rank bs ss h =
-    price_held (λ v. All (Held (λ w. good rank Sell w v ≡ false)) ss) bs
-    (All-weaker (λ l. All (λ m. good rank Sell m.price l.price ≡ false) ss) (λ l. All (Held (λ w. good rank Sell w l.price ≡ false)) ss) (λ l k. price_held (λ w. good rank Sell w l.price ≡ false) ss k) bs h)
+    price_held (λ v. AllByRecursion (Held (λ w. good rank Sell w v ≡ false)) ss) bs
+    (All-weaker (λ l. AllByRecursion (λ m. good rank Sell m.price l.price ≡ false) ss) (λ l. AllByRecursion (Held (λ w. good rank Sell w l.price ≡ false)) ss) (λ l k. price_held (λ w. good rank Sell w l.price ≡ false) ss k) bs h)
 
-pub apart_uncrossed : (rank : Ranking) (bs ss : List Level) → All (λ l. holds l ≡ true) bs → All (λ l. holds l ≡ true) ss → Apart rank bs ss → Uncrossed rank bs ss
+pub apart_uncrossed : (rank : Ranking) (bs ss : List Level) → AllByRecursion (λ l. holds l ≡ true) bs → AllByRecursion (λ l. holds l ≡ true) ss → Apart rank bs ss → Uncrossed rank bs ss
 apart_uncrossed rank bs ss hb hs h =
-    All-weaker (λ l. All (Held (λ w. good rank Sell w l.price ≡ false)) ss) (λ l. All (λ m. good rank Sell m.price l.price ≡ false) ss) (λ l k. held_prices (λ w. good rank Sell w l.price ≡ false) ss hs k) bs
-    (held_prices (λ v. All (Held (λ w. good rank Sell w v ≡ false)) ss) bs hb h)
+    All-weaker (λ l. AllByRecursion (Held (λ w. good rank Sell w l.price ≡ false)) ss) (λ l. AllByRecursion (λ m. good rank Sell m.price l.price ≡ false) ss) (λ l k. held_prices (λ w. good rank Sell w l.price ≡ false) ss hs k) bs
+    (held_prices (λ v. AllByRecursion (Held (λ w. good rank Sell w v ≡ false)) ss) bs hb h)
 
 -- ## Reserve
 
-pub renewed_held : (P : ℕ → Type 0) (rank : Ranking) (s : Side) (k : ℕ) (e : Order) (mark : Bool) (ls : List Level) → All (Held P) ls → All (Held P) (on_price rank s e.price (show_anew k e mark) (on_price rank s e.price (join_hidden k e.number) ls))
+pub renewed_held : (P : ℕ → Type 0) (rank : Ranking) (s : Side) (k : ℕ) (e : Order) (mark : Bool) (ls : List Level) → AllByRecursion (Held P) ls → AllByRecursion (Held P) (on_price rank s e.price (show_anew k e mark) (on_price rank s e.price (join_hidden k e.number) ls))
 renewed_held P rank s k e mark ls h =
     on_price_each (Held P) rank s e.price (show_anew k e mark) (on_price rank s e.price (join_hidden k e.number) ls) (tt, tt) (λ l i. held_shown_anew P k e mark l i)
     (on_price_each (Held P) rank s e.price (join_hidden k e.number) ls (tt, tt) (λ l i. held_joined P k e.number l i) h)
 
 -- each side holds P, which can differ
 abbrev pub HeldBoth : (ℕ → Type 0) → (ℕ → Type 0) → Book → Type 0
-HeldBoth P R b = All (Held P) b.buys × All (Held R) b.sells
+HeldBoth P R b = AllByRecursion (Held P) b.buys × AllByRecursion (Held R) b.sells
 
 renewed_held_both : (P R : ℕ → Type 0) (rank : Ranking) (b : Book) (e : Order) → HeldBoth P R b → HeldBoth P R (replenish_order rank b e)
 unfolding replenish_order
@@ -110,6 +110,6 @@ all_apart rank b xs h =
     (λ P k. (all_held P (λ _. Unit {0}) rank b xs (k, price_held (λ _. Unit {0}) b.sells (units b.sells))).0)
     (λ P k. (all_held (λ _. Unit {0}) P rank b xs (price_held (λ _. Unit {0}) b.buys (units b.buys), k)).1) h
   where
-    units : (ls : List Level) → All (λ (_ : Level). Unit {0}) ls
+    units : (ls : List Level) → AllByRecursion (λ (_ : Level). Unit {0}) ls
     units [] = tt
     units (l ∷ ls) = (tt, units ls)

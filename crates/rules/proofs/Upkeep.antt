@@ -1,6 +1,6 @@
 -- A sound book stays sound: what an accepted call leaves, and tidying. Assumes nothing.
 use Rattle.std.proofs.Common.{◌≡◌, ℕ, ◌-◌, ◌<◌, ◌≤◌, Bool, true, false, cond, ltb, List, [], ◌∷◌, length, filter, sym, refl, ◌∙◌, subst, arith}
-use Rattle.std.specs.List.{AllByRecursion as All}
+use Rattle.std.specs.List.{AllByRecursion}
 use Rattle.std.proofs.lemmas.Bool.{eq-eqb, ltb-true, lt-ltb}
 use Rattle.std.proofs.ByRecursion.{All-weaker, all_kept_by, kept_by_passes}
 use Rattle.allocation.specs.Rankings.{TotalOrder}
@@ -38,7 +38,7 @@ length_kept g (x ∷ xs) = go (g x) (length_kept g xs)
 
 -- ## Every part's order rests, so it is kept
 
-in_order : (ps : List Part) → All (λ p. 0 < p.quantity) ps → All (λ x. 0 < of_order x.order ps) ps
+in_order : (ps : List Part) → AllByRecursion (λ p. 0 < p.quantity) ps → AllByRecursion (λ x. 0 < of_order x.order ps) ps
 in_order [] h = tt
 in_order (p ∷ ps) h = (
   (let a = h.0 in let b = eq-eqb p.order p.order refl in grind arith),
@@ -46,9 +46,9 @@ in_order (p ∷ ps) h = (
 )
 
 abbrev pub Rests : (ℕ → ℕ) → Level → Type 0
-Rests f l = All (λ x. 0 < f x.order) l.shown.parts × All (λ x. 0 < f x.order) l.hidden.parts
+Rests f l = AllByRecursion (λ x. 0 < f x.order) l.shown.parts × AllByRecursion (λ x. 0 < f x.order) l.hidden.parts
 
-pub all_rest : (lot : ℕ) (f : ℕ → ℕ) (ls : List Level) → ((n : ℕ) → of_side n ls ≤ f n) → All (SoundLevel lot) ls → All (Rests f) ls
+pub all_rest : (lot : ℕ) (f : ℕ → ℕ) (ls : List Level) → ((n : ℕ) → of_side n ls ≤ f n) → AllByRecursion (SoundLevel lot) ls → AllByRecursion (Rests f) ls
 all_rest lot f [] le g = tt
 all_rest lot f (l ∷ ls) le g = (
   (
@@ -58,14 +58,14 @@ all_rest lot f (l ∷ ls) le g = (
   all_rest lot f ls (λ n. (let a = le n in omega arith)) g.1,
 )
 
-kept_parts : (f : ℕ → ℕ) (es : List Order) (s : Side) (v : ℕ) (ps : List Part) → All (λ p. 0 < f p.order) ps → All (λ p. listed es s v p ≡ true) ps → All (λ p. listed (filter (λ e. ltb 0 (f e.number)) es) s v p ≡ true) ps
+kept_parts : (f : ℕ → ℕ) (es : List Order) (s : Side) (v : ℕ) (ps : List Part) → AllByRecursion (λ p. 0 < f p.order) ps → AllByRecursion (λ p. listed es s v p ≡ true) ps → AllByRecursion (λ p. listed (filter (λ e. ltb 0 (f e.number)) es) s v p ≡ true) ps
 kept_parts f es s v [] r h = tt
 kept_parts f es s v (p ∷ ps) r h = (
   listed_kept (λ n. ltb 0 (f n)) es s v p ∙ rw (h.0, lt-ltb 0 (f p.order) r.0),
   kept_parts f es s v ps r.1 h.1,
 )
 
-kept_orderly : (f : ℕ → ℕ) (es : List Order) (s : Side) (ls : List Level) → All (Rests f) ls → All (Orderly es s) ls → All (Orderly (filter (λ e. ltb 0 (f e.number)) es) s) ls
+kept_orderly : (f : ℕ → ℕ) (es : List Order) (s : Side) (ls : List Level) → AllByRecursion (Rests f) ls → AllByRecursion (Orderly es s) ls → AllByRecursion (Orderly (filter (λ e. ltb 0 (f e.number)) es) s) ls
 kept_orderly f es s [] r h = tt
 kept_orderly f es s (l ∷ ls) r h = (
   (
@@ -85,9 +85,9 @@ module _ (rank : Ranking) (O : TotalOrder rank.good) (lot : ℕ) where
     pub apart : Apart rank x.buys x.sells
     pub rising : Rising x.last (numbers x.orders)
     pub few : length x.orders ≤ 128
-    pub admitted : All (Admitted lot) x.orders
-    pub inside : All (λ e. resting e.number x ≤ e.quantity) x.orders
-    pub rested : All (λ e. is_reserve e.kind ≡ true → Rested lot e.number x) x.orders
+    pub admitted : AllByRecursion (Admitted lot) x.orders
+    pub inside : AllByRecursion (λ e. resting e.number x ≤ e.quantity) x.orders
+    pub rested : AllByRecursion (λ e. is_reserve e.kind ≡ true → Rested lot e.number x) x.orders
 
   pub tidy_sound : (p : Phase) (x : Book) → Upkept x → SoundBook rank (tidy (with_phase p x))
   unfolding tidy
@@ -98,13 +98,13 @@ module _ (rank : Ranking) (O : TotalOrder rank.good) (lot : ℕ) where
       let is : lot ≡ x.lot = sym u.fit.sides.is in
       let same : (n : ℕ) → resting n (tidy x) ≡ resting n x = λ n. tidy_rest n x in
       let buys : SoundSide rank x.lot es Buy (filter holds x.buys) = record {
-        sound = subst (λ k. All (SoundLevel k) (filter holds x.buys)) is (all_kept_by holds (SoundLevel lot) x.buys u.fit.sides.buys);
+        sound = subst (λ k. AllByRecursion (SoundLevel k) (filter holds x.buys)) is (all_kept_by holds (SoundLevel lot) x.buys u.fit.sides.buys);
         orderly = all_kept_by holds (Orderly es Buy) x.buys (kept_orderly f x.orders Buy x.buys (all_rest lot f x.buys (λ n. omega arith) u.fit.sides.buys) u.both.0);
         sorted = kept_sorted rank O Buy holds x.buys u.ranked.buys;
         occupied = kept_by_passes holds x.buys;
       } in
       let sells : SoundSide rank x.lot es Sell (filter holds x.sells) = record {
-        sound = subst (λ k. All (SoundLevel k) (filter holds x.sells)) is (all_kept_by holds (SoundLevel lot) x.sells u.fit.sides.sells);
+        sound = subst (λ k. AllByRecursion (SoundLevel k) (filter holds x.sells)) is (all_kept_by holds (SoundLevel lot) x.sells u.fit.sides.sells);
         orderly = all_kept_by holds (Orderly es Sell) x.sells (kept_orderly f x.orders Sell x.sells (all_rest lot f x.sells (λ n. omega arith) u.fit.sides.sells) u.both.1);
         sorted = kept_sorted rank O Sell holds x.sells u.ranked.sells;
         occupied = kept_by_passes holds x.sells;
@@ -118,19 +118,19 @@ module _ (rank : Ranking) (O : TotalOrder rank.good) (lot : ℕ) where
             (apart_changed rank x.buys (filter holds x.buys) x.sells (filter holds x.sells) (λ P h. all_kept_by holds (Held P) x.buys h) (λ P h. all_kept_by holds (Held P) x.sells h) u.apart);
         rising = rising_kept x.last g x.orders u.rising;
         few = omega (arith, length_kept g x.orders, u.few);
-        admitted = subst (λ k. All (Admitted k) es) is (all_kept_by g (Admitted lot) x.orders u.admitted);
+        admitted = subst (λ k. AllByRecursion (Admitted k) es) is (all_kept_by g (Admitted lot) x.orders u.admitted);
         resting = All-weaker (λ e. (g e ≡ true) × (resting e.number x ≤ e.quantity)) (λ e. (0 < resting e.number (tidy x)) × (resting e.number (tidy x) ≤ e.quantity))
             (λ e h. (omega (arith, same e.number, ltb-true 0 (resting e.number x) h.0), omega (arith, same e.number, h.1))) es
             (all_both (λ e. g e ≡ true) (λ e. resting e.number x ≤ e.quantity) es (kept_by_passes g x.orders) (all_kept_by g (λ e. resting e.number x ≤ e.quantity) x.orders u.inside));
-        replenished = subst (λ k. All (λ e. is_reserve e.kind ≡ true → All (λ l. runs_low k e.number l ≡ false) (filter holds x.buys) × All (λ l. runs_low k e.number l ≡ false) (filter holds x.sells)) es) is
-            (All-weaker (λ e. is_reserve e.kind ≡ true → Rested lot e.number x) (λ e. is_reserve e.kind ≡ true → All (λ l. runs_low lot e.number l ≡ false) (filter holds x.buys) × All (λ l. runs_low lot e.number l ≡ false) (filter holds x.sells))
+        replenished = subst (λ k. AllByRecursion (λ e. is_reserve e.kind ≡ true → AllByRecursion (λ l. runs_low k e.number l ≡ false) (filter holds x.buys) × AllByRecursion (λ l. runs_low k e.number l ≡ false) (filter holds x.sells)) es) is
+            (All-weaker (λ e. is_reserve e.kind ≡ true → Rested lot e.number x) (λ e. is_reserve e.kind ≡ true → AllByRecursion (λ l. runs_low lot e.number l ≡ false) (filter holds x.buys) × AllByRecursion (λ l. runs_low lot e.number l ≡ false) (filter holds x.sells))
             (λ e h r. (all_kept_by holds (λ l. runs_low lot e.number l ≡ false) x.buys (h r).0, all_kept_by holds (λ l. runs_low lot e.number l ≡ false) x.sells (h r).1)) es (all_kept_by g (λ e. is_reserve e.kind ≡ true → Rested lot e.number x) x.orders u.rested));
       }
 
   -- ## A call that takes no order on
 
   pub upkept_less : (b x : Book) → b.lot ≡ lot → SoundBook rank b → Fit lot x → Ranked rank O x → x.orders ≡ b.orders → b.last ≤ x.last → x.steps ≡ b.steps → ((n : ℕ) → resting n x ≤ resting n b)
-      → Both b.orders x → Apart rank x.buys x.sells → All (λ e. is_reserve e.kind ≡ true → Rested lot e.number x) b.orders → Upkept x
+      → Both b.orders x → Apart rank x.buys x.sells → AllByRecursion (λ e. is_reserve e.kind ≡ true → Rested lot e.number x) b.orders → Upkept x
   upkept_less b x is s f r o l t le both apart rest =
       record {
         fit = f;
@@ -140,8 +140,8 @@ module _ (rank : Ranking) (O : TotalOrder rank.good) (lot : ℕ) where
         apart = apart;
         rising = subst (λ es. Rising x.last (numbers es)) (sym o) (rising_later b.last x.last (numbers b.orders) l s.rising);
         few = subst (λ es. length es ≤ 128) (sym o) s.few;
-        admitted = subst (λ es. All (Admitted lot) es) (sym o) (subst (λ k. All (Admitted k) b.orders) is s.admitted);
-        inside = subst (λ es. All (λ e. resting e.number x ≤ e.quantity) es) (sym o)
+        admitted = subst (λ es. AllByRecursion (Admitted lot) es) (sym o) (subst (λ k. AllByRecursion (Admitted k) b.orders) is s.admitted);
+        inside = subst (λ es. AllByRecursion (λ e. resting e.number x ≤ e.quantity) es) (sym o)
             (All-weaker (λ e. (0 < resting e.number b) × (resting e.number b ≤ e.quantity)) (λ e. resting e.number x ≤ e.quantity) (λ e h. omega (arith, le e.number, h.1)) b.orders s.resting);
-        rested = subst (λ es. All (λ e. is_reserve e.kind ≡ true → Rested lot e.number x) es) (sym o) rest;
+        rested = subst (λ es. AllByRecursion (λ e. is_reserve e.kind ≡ true → Rested lot e.number x) es) (sym o) rest;
       }

@@ -1,6 +1,6 @@
 -- What holds of each level of a side stays so through trading, taking off and unmarking, if each of their steps keeps it. Assumes nothing.
 use Rattle.std.proofs.Common.{◌≡◌, ℕ, ◌-◌, ◌<◌, min, Bool, true, false, cond, ◌&&◌, List, [], ◌∷◌, map, refl, arith}
-use Rattle.std.specs.List.{AllByRecursion as All}
+use Rattle.std.specs.List.{AllByRecursion}
 use Rattle.allocation.specs.Wheels.{Wheel}
 use Rattle.allocation.specs.ByTime.{shares_in_order}
 use Rattle.allocation.specs.Dealings.{Deal, Dealt, sum}
@@ -39,18 +39,18 @@ module _ (Q : Level → Type 0) where
   each_reached step deal lot a ss false q l h = h
 
   pub each_traded : ((t : Step) (xs : List ℕ) (w : Wheel) (l : Level) → Q l → Q (after_step t xs w l))
-      → (deal : Deal) (lot a : ℕ) (ss : List Step) (reaches : ℕ → Bool) (q : ℕ) (ls : List Level) → All Q ls → All Q (trade_side deal lot a ss reaches q ls).rest
+      → (deal : Deal) (lot a : ℕ) (ss : List Step) (reaches : ℕ → Bool) (q : ℕ) (ls : List Level) → AllByRecursion Q ls → AllByRecursion Q (trade_side deal lot a ss reaches q ls).rest
   unfolding trade_side
   each_traded step deal lot a ss reaches q [] h = tt
   each_traded step deal lot a ss reaches q (l ∷ ls) h =
       (each_reached step deal lot a ss (reaches l.price) q l h.0, each_traded step deal lot a ss reaches (trade_reached deal lot a ss (reaches l.price) q l).left ls h.1)
 
-  pub each_taken : ((n m : ℕ) (l : Level) → Q l → Q (take_off_level n m l)) → (n m : ℕ) (ls : List Level) → All Q ls → All Q (take_off_side n m ls)
+  pub each_taken : ((n m : ℕ) (l : Level) → Q l → Q (take_off_level n m l)) → (n m : ℕ) (ls : List Level) → AllByRecursion Q ls → AllByRecursion Q (take_off_side n m ls)
   unfolding take_off_side
   each_taken step n m [] h = tt
   each_taken step n m (l ∷ ls) h = (step n m l h.0, each_taken step n (m - of_level n l) ls h.1)
 
-  pub each_mapped : (f : Level → Level) → ((l : Level) → Q l → Q (f l)) → (ls : List Level) → All Q ls → All Q (map f ls)
+  pub each_mapped : (f : Level → Level) → ((l : Level) → Q l → Q (f l)) → (ls : List Level) → AllByRecursion Q ls → AllByRecursion Q (map f ls)
   each_mapped f step [] h = tt
   each_mapped f step (l ∷ ls) h = (step l h.0, each_mapped f step ls h.1)
 
@@ -69,7 +69,7 @@ orderly_taken es s n m l o = (orderly_lost es s l.price 1 2 _ l.shown o.0, order
 
 -- P holds of the price of every level that has a part
 abbrev pub Held : (ℕ → Type 0) → Level → Type 0
-Held P l = All (λ (_ : Part). P l.price) l.shown.parts × All (λ (_ : Part). P l.price) l.hidden.parts
+Held P l = AllByRecursion (λ (_ : Part). P l.price) l.shown.parts × AllByRecursion (λ (_ : Part). P l.price) l.hidden.parts
 
 held_steady : (P : ℕ → Type 0) (v : ℕ) → Steady (λ _. P v)
 held_steady P v x y o h m = m
@@ -98,7 +98,7 @@ held_joined P lot n l h = go (runs_low lot n l && shows_two n l)
     go false = h
 
 -- some part has what all parts have
-pub of_some : (X : Type 0) (n : ℕ) (ps : List Part) → 0 < of_order n ps → All (λ (_ : Part). X) ps → X
+pub of_some : (X : Type 0) (n : ℕ) (ps : List Part) → 0 < of_order n ps → AllByRecursion (λ (_ : Part). X) ps → X
 of_some X n [] h a = let no_way : ⊥ = omega arith in absurd no_way
 of_some X n (p ∷ ps) h a = a.0
 

@@ -1,6 +1,6 @@
 -- What is so of every book between calls. Assumes nothing.
 use Rattle.std.specs.Prelude.{◌≡◌, ℕ, ◌<◌, ◌≤◌, Bool, true, false, cond, ◌&&◌, List, [], ◌∷◌, map, length, ◌==◌}
-use Rattle.std.specs.List.{AllByRecursion as All}
+use Rattle.std.specs.List.{AllByRecursion}
 use Rattle.allocation.specs.Dealings.{Deal, Seated, interest}
 use Rattle.rules.specs.declared.orders.Side.{Side}
 use Rattle.rules.specs.declared.orders.Side.TheVariants.{Buy, Sell}
@@ -21,7 +21,7 @@ use Rattle.rules.specs.Codes.{most_orders}
 
 -- no part is empty, and the wheel seats exactly those with interest, each once, with used below the round lot and 0 where nobody sits
 pub record SoundQueue (lot : ℕ) (k : Queue) : Type 0 where
-  pub positive : All (λ p. 0 < p.quantity) k.parts
+  pub positive : AllByRecursion (λ p. 0 < p.quantity) k.parts
   pub seated : Seated lot k.wheel (λ p. interest p (claims k.parts))
 
 -- both queues of a price
@@ -46,7 +46,7 @@ listed es s v p = any (λ e. belongs e s v p) es
 
 -- every part belongs to an order of the table, at most `marks` of them are marked, and at most `each` are of one order
 pub record OrderlyParts (es : List Order) (s : Side) (v marks each : ℕ) (ps : List Part) : Type 0 where
-  pub listed : All (λ p. listed es s v p ≡ true) ps
+  pub listed : AllByRecursion (λ p. listed es s v p ≡ true) ps
   pub marked : marked_parts ps ≤ marks
   pub few : (n : ℕ) → parts_of n ps ≤ each
 
@@ -63,14 +63,14 @@ prices = map (λ l. l.price)
 -- strictly best price first
 abbrev pub BestFirst : Ranking → Side → List ℕ → Type 0
 BestFirst rank s [] = Unit {0}
-BestFirst rank s (v ∷ vs) = All (λ w. better rank s v w ≡ true) vs × BestFirst rank s vs
+BestFirst rank s (v ∷ vs) = AllByRecursion (λ w. better rank s v w ≡ true) vs × BestFirst rank s vs
 
 -- one side of a book: sound and orderly levels, best price first, none of them empty
 pub record SoundSide (rank : Ranking) (lot : ℕ) (es : List Order) (s : Side) (ls : List Level) : Type 0 where
-  pub sound : All (SoundLevel lot) ls
-  pub orderly : All (Orderly es s) ls
+  pub sound : AllByRecursion (SoundLevel lot) ls
+  pub orderly : AllByRecursion (Orderly es s) ls
   pub sorted : BestFirst rank s (prices ls)
-  pub occupied : All (λ l. holds l ≡ true) ls
+  pub occupied : AllByRecursion (λ l. holds l ≡ true) ls
 
 -- ## The orders
 
@@ -81,7 +81,7 @@ numbers = map (λ e. e.number)
 -- by rising number, up to the last
 abbrev pub Rising : ℕ → List ℕ → Type 0
 Rising last [] = Unit {0}
-Rising last (n ∷ ns) = (n ≤ last) × All (λ m. n < m) ns × Rising last ns
+Rising last (n ∷ ns) = (n ≤ last) × AllByRecursion (λ m. n < m) ns × Rising last ns
 
 -- what an order that rests came with
 pub record Admitted (lot : ℕ) (e : Order) : Type 0 where
@@ -96,7 +96,7 @@ pub record Admitted (lot : ℕ) (e : Order) : Type 0 where
 
 -- no sell price is within reach of a buy at its own price
 abbrev pub Uncrossed : Ranking → List Level → List Level → Type 0
-Uncrossed rank buys sells = All (λ l. All (λ m. good rank Sell m.price l.price ≡ false) sells) buys
+Uncrossed rank buys sells = AllByRecursion (λ l. AllByRecursion (λ m. good rank Sell m.price l.price ≡ false) sells) buys
 
 -- what is so of a book between calls
 pub record SoundBook (rank : Ranking) (b : Book) : Type 0 where
@@ -107,11 +107,11 @@ pub record SoundBook (rank : Ranking) (b : Book) : Type 0 where
   pub uncrossed : Uncrossed rank b.buys b.sells
   pub rising : Rising b.last (numbers b.orders)
   pub few : length b.orders ≤ most_orders
-  pub admitted : All (Admitted b.lot) b.orders
+  pub admitted : AllByRecursion (Admitted b.lot) b.orders
   -- each order rests, and no more of it than it came with
-  pub resting : All (λ e. (0 < resting e.number b) × (resting e.number b ≤ e.quantity)) b.orders
+  pub resting : AllByRecursion (λ e. (0 < resting e.number b) × (resting e.number b ≤ e.quantity)) b.orders
   -- a reserve order shows at least the round lot or hides nothing
-  pub replenished : All (λ e. is_reserve e.kind ≡ true → All (λ l. runs_low b.lot e.number l ≡ false) b.buys × All (λ l. runs_low b.lot e.number l ≡ false) b.sells) b.orders
+  pub replenished : AllByRecursion (λ e. is_reserve e.kind ≡ true → AllByRecursion (λ l. runs_low b.lot e.number l ≡ false) b.buys × AllByRecursion (λ l. runs_low b.lot e.number l ≡ false) b.sells) b.orders
 
 -- a new book is sound, and every call leaves a sound book sound
 pub record StaysSound (rank : Ranking) (deal : Deal) : Type 0 where

@@ -1,6 +1,6 @@
 -- Lead: on a wheel that is dealt by parity, nobody gets more than a round lot ahead of one who keeps its seat. Assumes nothing.
 use Rattle.std.specs.Prelude.{◌≡◌, ℕ, ◌+◌, ◌<◌, ◌≤◌, Bool, true, false, cond, not, ◌&&◌, List, [], ◌∷◌, ◌==◌}
-use Rattle.std.specs.List.{AllByRecursion as All}
+use Rattle.std.specs.List.{AllByRecursion}
 use Rattle.allocation.specs.Dealings.{Deal, interest}
 use Rattle.rules.specs.declared.orders.Side.{Side}
 use Rattle.rules.specs.declared.orders.Category.{Category}
@@ -122,4 +122,4 @@ abbrev pub NobodyLeadsByMoreThanALot : Ranking → Deal → Type 0
 NobodyLeadsByMoreThanALot rank deal =
     (lot : ℕ) → 0 < lot → (table : List Step) → GoodTable table → (earlier later : List Ask) (w : Spot) (p q : ℕ) →
     let between : List Event = run rank deal (final (new_with lot table) (run rank deal (new_with lot table) earlier)) later in
-    All (Keeps w p) between → sum_of (dealt_to w q) between ≤ sum_of (dealt_to w p) between + lot
+    AllByRecursion (Keeps w p) between → sum_of (dealt_to w q) between ≤ sum_of (dealt_to w p) between + lot

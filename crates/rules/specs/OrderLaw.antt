@@ -1,6 +1,6 @@
 -- Order: better parts in reach go first, wholly. Assumes nothing.
 use Rattle.std.specs.Prelude.{◌≡◌, ℕ, ◌<◌, ◌≤◌, Bool, true, false, cond, not, ◌&&◌, ◌⊎◌, List, [], ◌∷◌, ◌++◌, map, filter, ◌==◌}
-use Rattle.std.specs.List.{AllByRecursion as All}
+use Rattle.std.specs.List.{AllByRecursion}
 use Rattle.allocation.specs.Dealings.{Deal}
 use Rattle.rules.specs.declared.orders.Side.{Side}
 use Rattle.rules.specs.declared.orders.Order.{Order}
@@ -78,12 +78,12 @@ pub record InOrder (rank : Ranking) (b : Book) (e : Order) (d : Outcome) : Type 
   pub reached : List Reached
   pub all_reached : map forget reached ≡ all_in_reach rank b e
   pub rows : filter is_trade d.rows ≡ rows_for e.number reached
-  pub within : All (λ x. x.share ≤ x.size) reached
-  pub best_first : All (λ y. All (λ x. Better rank (other e.side) b.steps x y → 0 < y.share → x.share ≡ x.size) reached) reached
-  pub left_over : sum_of (λ x. x.share) reached < e.quantity → All (λ x. x.share ≡ x.size) reached
+  pub within : AllByRecursion (λ x. x.share ≤ x.size) reached
+  pub best_first : AllByRecursion (λ y. AllByRecursion (λ x. Better rank (other e.side) b.steps x y → 0 < y.share → x.share ≡ x.size) reached) reached
+  pub left_over : sum_of (λ x. x.share) reached < e.quantity → AllByRecursion (λ x. x.share ≡ x.size) reached
 
 -- for each order that a run from a new book accepts
 abbrev pub TradesInOrder : Ranking → Deal → Type 0
 TradesInOrder rank deal =
     (lot : ℕ) → 0 < lot → (table : List Step) → GoodTable table → (asks : List Ask) →
-    All (λ v. (e : Order) → Entered v e → InOrder rank v.before e v.did) (run rank deal (new_with lot table) asks)
+    AllByRecursion (λ v. (e : Order) → Entered v e → InOrder rank v.before e v.did) (run rank deal (new_with lot table) asks)

@@ -1,6 +1,6 @@
 -- What a call's answer and rows say of each other and of the book before it. Assumes nothing.
 use Rattle.std.specs.Prelude.{◌≡◌, ℕ, ◌+◌, ◌*◌, ◌<◌, ◌≤◌, true, ◌⊎◌, List, [], length}
-use Rattle.std.specs.List.{AllByRecursion as All}
+use Rattle.std.specs.List.{AllByRecursion}
 use Rattle.allocation.specs.Dealings.{Deal}
 use Rattle.rules.specs.declared.calls.Call.{Call}
 use Rattle.rules.specs.declared.calls.Call.TheVariants.{Open, Halt, Resume, Close, Quote, Enter, Cancel, Reduce}
@@ -38,7 +38,7 @@ pub record WellReported (b : Book) (c : Call) (d : Outcome) : Type 0 where
   pub given_back : shares_given_back d.answer ≡ sum_of row_given_back d.rows
   -- a refused call has no rows, and leaves the book as it was
   pub refused : 0 < answer_number d.answer → (d.book ≡ b) × (d.rows ≡ [])
-  pub names : All (Names b c) d.rows
+  pub names : AllByRecursion (Names b c) d.rows
   -- so a report of 400 rows always suffices
   pub few : length d.rows ≤ most_rows c
 

@@ -1,6 +1,6 @@
 -- How much room a sound book needs. Assumes nothing.
 use Rattle.std.specs.Prelude.{ℕ, ◌+◌, ◌*◌, ◌<◌, ◌≤◌, List, length}
-use Rattle.std.specs.List.{AllByRecursion as All}
+use Rattle.std.specs.List.{AllByRecursion}
 use Rattle.rules.specs.declared.orders.Part.{Part}
 use Rattle.rules.specs.Lists.{sum_of}
 use Rattle.rules.specs.Books.{Level, Ranking, Book}
@@ -21,7 +21,7 @@ SmallPart p = ((0 < p.participant) × (p.participant < 25)) × (p.quantity ≤ m
 
 -- so of all parts at a price
 abbrev pub SmallParts : Level → Type 0
-SmallParts l = All SmallPart l.shown.parts × All SmallPart l.hidden.parts
+SmallParts l = AllByRecursion SmallPart l.shown.parts × AllByRecursion SmallPart l.hidden.parts
 
 -- a book is small
 pub record Small (b : Book) : Type 0 where
@@ -29,8 +29,8 @@ pub record Small (b : Book) : Type 0 where
   pub parts : parts_on b.buys + parts_on b.sells ≤ 3 * most_orders
   -- a price an order
   pub levels : length b.buys + length b.sells ≤ most_orders
-  pub buys : All SmallParts b.buys
-  pub sells : All SmallParts b.sells
+  pub buys : AllByRecursion SmallParts b.buys
+  pub sells : AllByRecursion SmallParts b.sells
 
 -- every sound book is small
 abbrev pub SoundBooksAreSmall : Ranking → Type 0

@@ -1,6 +1,6 @@
 -- Sum: what an accepted order traded, was given back and has resting is what it came with. Assumes nothing.
 use Rattle.std.specs.Prelude.{◌≡◌, ℕ, ◌+◌, ◌<◌, List}
-use Rattle.std.specs.List.{AllByRecursion as All}
+use Rattle.std.specs.List.{AllByRecursion}
 use Rattle.allocation.specs.Dealings.{Deal}
 use Rattle.rules.specs.declared.orders.Order.{Order}
 use Rattle.rules.specs.declared.phases.Step.{Step}
@@ -14,4 +14,4 @@ abbrev pub AddsUp : Ranking → Deal → Type 0
 AddsUp rank deal =
     (lot : ℕ) → 0 < lot → (table : List Step) (asks : List Ask) →
     let past : List Event = run rank deal (new_with lot table) asks in
-    All (λ v. (e : Order) → Entered v e → traded_by e.number past + given_back_to e.number past + resting e.number (final (new_with lot table) past) ≡ e.quantity) past
+    AllByRecursion (λ v. (e : Order) → Entered v e → traded_by e.number past + given_back_to e.number past + resting e.number (final (new_with lot table) past) ≡ e.quantity) past

@@ -1,4 +1,6 @@
 //! The venue's rule book: its words as types, its rules as definitions, its laws over every run of calls.
+#![tactic(auto)]
+
 mod answers;
 mod calls;
 mod laws;

@@ -1,6 +1,6 @@
 -- Trading writes no more rows than there are parts. Assumes nothing.
 use Rattle.std.proofs.Common.{◌≡◌, ℕ, zero, suc, ◌+◌, ◌-◌, ◌<◌, ◌≤◌, min, Bool, true, false, cond, eqb, leb, ◌⊎◌, List, [], ◌∷◌, ◌++◌, map, length, sym, refl, ap, ◌∙◌, subst, inl, inr, ⊎_elim, arith}
-use Rattle.std.specs.List.{AllByRecursion as All}
+use Rattle.std.specs.List.{AllByRecursion}
 use Rattle.std.proofs.lemmas.List.{length-append}
 use Rattle.std.proofs.lemmas.Bool.{cases_eq, eq-eqb, ne_eqb, le-leb, lt-leb}
 use Rattle.std.proofs.lemmas.Bool.Decides.{nat_tests}
@@ -161,7 +161,7 @@ reached_few deal D lot arriving table true q l r = price_few deal D lot arriving
 reached_few deal D lot arriving table false q l r = omega arith
 
 -- trading with a side writes no more rows than the side has parts
-pub side_few : (deal : Deal) → Lawful deal → (lot arriving : ℕ) (table : List Step) (reach : ℕ → Bool) (q : ℕ) (ls : List Level) → All (SoundLevel lot) ls → length (trade_side deal lot arriving table reach q ls).rows ≤ count ls
+pub side_few : (deal : Deal) → Lawful deal → (lot arriving : ℕ) (table : List Step) (reach : ℕ → Bool) (q : ℕ) (ls : List Level) → AllByRecursion (SoundLevel lot) ls → length (trade_side deal lot arriving table reach q ls).rows ≤ count ls
 unfolding trade_side
 side_few deal D lot arriving table reach q [] r = omega arith
 side_few deal D lot arriving table reach q (l ∷ ls) r =

@@ -1,6 +1,6 @@
 -- Step after step at a price, and price after price. Assumes nothing.
 use Rattle.std.proofs.Common.{◌≡◌, ℕ, zero, suc, ◌+◌, ◌-◌, ◌<◌, ◌≤◌, Bool, true, false, List, [], ◌∷◌, ◌++◌, length, get_or, take, drop, set, sym, refl, ap, ◌∙◌, subst, append_assoc, append-nil, arith}
-use Rattle.std.specs.List.{AllByRecursion as All}
+use Rattle.std.specs.List.{AllByRecursion}
 use Rattle.std.proofs.lemmas.List.{set-get_or, get_or-set_same, length-set, drop_more, drop_all, take_more, take_more_set, drop-set-lt, take_all, length-append, take-append-drop}
 use Rattle.allocation.specs.Dealings.{Deal, Lawful, sum}
 use Rattle.rules.specs.Books.{Level, nothing_at}

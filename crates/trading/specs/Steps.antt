@@ -1,6 +1,6 @@
 -- One step at a price, by itself. Assumes nothing.
 use Rattle.std.specs.Prelude.{ℕ, ◌<◌, Bool, true, not, List, nat_le, slice_index_or}
-use Rattle.std.specs.List.{AllByRecursion as All}
+use Rattle.std.specs.List.{AllByRecursion}
 use Rattle.allocation.specs.Wheels.{Wheel}
 use Rattle.allocation.specs.Dealings.{Deal, Dealt, Seated, interest}
 use Rattle.rules.specs.Lists.{sum_of}

@@ -1,4 +1,6 @@
 //! An arriving order trades with one side: price by price, step by step, part by part.
+#![tactic(auto)]
+
 mod laws;
 mod prices;
 mod reports;

@@ -1,6 +1,6 @@
 //! Trading at one price, and with a side.
 ghost use Rattle.std.specs.Prelude.{◌≡◌, ◌+◌, ◌<◌, ◌≤◌, length, slice_set};
-ghost use Rattle.std.specs.List.{AllByRecursion as All};
+ghost use Rattle.std.specs.List.{AllByRecursion};
 ghost use Rattle.rules.specs.Books.{ranked_by};
 ghost use Rattle.rules.specs.Trading.{trade_price, trade_side};
 ghost use Rattle.levels.specs.Sides.{levels_of};
@@ -53,7 +53,7 @@ pub fn trade_side<K: Ranking, D: Dealing>(
     report: &mut [Row],
     room: &mut [u32],
 ) -> Progress
-    requires ready { All (SoundLevel terms.lot) (levels_of levels.old) }
+    requires ready { AllByRecursion (SoundLevel terms.lot) (levels_of levels.old) }
     requires rows { so_far.rows + length (trade_side D.Dealing.meaning terms.lot terms.arriving table.now (reached (ranked_by K.Ranking.initial K.Ranking.good) reach) so_far.left (levels_of levels.old)).rows ≤ length report.old }
     requires room { 384 ≤ length room.old }
     ensures levels { levels_of levels.new ≡ (trade_side D.Dealing.meaning terms.lot terms.arriving table.now (reached (ranked_by K.Ranking.initial K.Ranking.good) reach) so_far.left (levels_of levels.old)).rest }

@@ -1,6 +1,6 @@
 //! The steps of trading at a price.
 ghost use Rattle.std.specs.Prelude.{◌≡◌, ◌+◌, ◌-◌, ◌<◌, ◌≤◌, length, slice_set};
-ghost use Rattle.std.specs.List.{AllByRecursion as All};
+ghost use Rattle.std.specs.List.{AllByRecursion};
 ghost use Rattle.allocation.specs.Dealings.{Seated, interest, sum};
 ghost use Rattle.allocation.specs.Memory.{wheel_of};
 ghost use Rattle.rules.specs.Quantities.{claims};
@@ -41,7 +41,7 @@ fn share_out<D: Dealing>(
     parts: &[Part],
     shares: &mut [u32],
 )
-    requires limits { All WithinLimits parts.now }
+    requires limits { AllByRecursion WithinLimits parts.now }
     requires short { length parts.now ≤ 384 }
     requires one_each { length shares.old ≡ length parts.now }
     requires seated { Seated lot (wheel_of wheel.old) (λ p. interest p (claims parts.now)) }

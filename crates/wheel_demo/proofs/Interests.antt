@@ -1,6 +1,6 @@
 -- What participants have in claims that come and go, and which claims stand. Assumes nothing.
 use Rattle.std.proofs.Common.{◌≡◌, ℕ, ◌+◌, ◌-◌, ◌*◌, ◌<◌, ◌≤◌, Bool, true, false, cond, not, ◌&&◌, eqb, ltb, leb, List, [], ◌∷◌, ◌++◌, length, filter, sym, refl, ap, ◌∙◌, arith}
-use Rattle.std.specs.List.{AllByRecursion as All}
+use Rattle.std.specs.List.{AllByRecursion}
 use Rattle.std.proofs.ByRecursion.{all_kept_by, All-get_or, All-from_get_or}
 use Rattle.std.proofs.lemmas.Bool.{and_parts, and_from, leb-true, le-leb, ltb-true, ltb-false, eqb-true, ne_eqb, not-true, not-false, cond_both}
 use Rattle.allocation.specs.Dealings.{interest, claims_left, total}
@@ -42,7 +42,7 @@ taken_claim c n r is so =
 
 -- every claim of a list is admissible
 abbrev pub EachAdmissible : List Claim → Type 0
-EachAdmissible cs = All (λ c. admissible c ≡ true) cs
+EachAdmissible cs = AllByRecursion (λ c. admissible c ≡ true) cs
 
 pub each_admitted : (cs : List Claim) → Admitted cs → EachAdmissible cs
 each_admitted cs h = All-from_get_or (λ c. admissible c ≡ true) cs none (λ i l. h i none l)
@@ -50,7 +50,7 @@ each_admitted cs h = All-from_get_or (λ c. admissible c ≡ true) cs none (λ i
 pub admitted_each : (cs : List Claim) → EachAdmissible cs → Admitted cs
 admitted_each cs h k d l = All-get_or (λ c. admissible c ≡ true) cs k d l h
 
-pub each_known : (cs : List Claim) → EachAdmissible cs → All (λ c. c.participant < 25) cs
+pub each_known : (cs : List Claim) → EachAdmissible cs → AllByRecursion (λ c. c.participant < 25) cs
 each_known [] h = tt
 each_known (c ∷ cs) h = ((bounds c h.0).known, each_known cs h.1)
 

@@ -1,4 +1,6 @@
 //! The wheel at work: claims dealt to by parity and by time, printed step by step.
+#![tactic(auto)]
+
 ghost use Rattle.std.specs.Prelude.{◌≡◌};
 
 mod queues;

@@ -1,6 +1,6 @@
 //! Seats lost: one filter for every loss.
 ghost use Rattle.std.specs.Prelude.{◌≡◌, ℕ, ◌^◌, ◌<◌, ◌≤◌, Bool, ltb, map, length, take, if◌then◌else◌, filter, nat_lt};
-ghost use Rattle.std.specs.List.{AllByRecursion as All};
+ghost use Rattle.std.specs.List.{AllByRecursion};
 ghost use Rattle.allocation.specs.Amounts.{amounts};
 ghost use Rattle.allocation.specs.Dealings.{total, interest, claims_left};
 ghost use Rattle.allocation.specs.Wheels.{retain, first_stays, lose_seat, other_than};
@@ -83,7 +83,7 @@ impl Wheel {
     /// Every participant without interest left loses its seat, once the claims have had their shares.
     /// A claim past the last share has all of its size left.
     pub fn lose_seats_without_interest<C: Claimed>(&mut self, claims: &[C], shares: &[u32])
-        requires known { All (λ c. (C.claim c).participant < 25) claims.now }
+        requires known { AllByRecursion (λ c. (C.claim c).participant < 25) claims.now }
         requires fits { total (map C.claim claims.now) < 2 ^ 32 }
         ensures { wheel_of self.new ≡ retain (λ p. ltb 0 (interest p (claims_left (map C.claim claims.now) shares.now))) (wheel_of self.old) }
     {

@@ -1,6 +1,6 @@
 //! A book is looked at. Nothing here lets a caller change it.
 ghost use Rattle.std.specs.Prelude.{◌≡◌, map};
-ghost use Rattle.rules.specs.Books.{side as levels-on, away as away-price};
+ghost use Rattle.rules.specs.Books.{side as levels_on, away as away_price};
 ghost use Rattle.levels.specs.Sides.{levels_of};
 ghost use Rattle.orders.specs.Rows.{orders_of};
 ghost use Rattle.memory.specs.States.{book_of};
@@ -15,7 +15,7 @@ use rules::{Phase, Side};
 impl<M: RankedMemory, D: Dealing> RankedBook<M, D> {
     /// The price levels of a side, best price first: at each its price, and of each category the parts by working time and the wheel.
     pub fn side(&self, side: Side) -> &Levels
-        ensures { levels_of result.now ≡ levels-on side (book_of (M.RankedMemory.state self.now.memory)) }
+        ensures { levels_of result.now ≡ levels_on side (book_of (M.RankedMemory.state self.now.memory)) }
     {
         self.memory.look().side(side)
     }
@@ -29,7 +29,7 @@ impl<M: RankedMemory, D: Dealing> RankedBook<M, D> {
 
     /// The away price of a side; 0 means none.
     pub fn away(&self, side: Side) -> u32
-        ensures { result ≡ away-price side (book_of (M.RankedMemory.state self.now.memory)) }
+        ensures { result ≡ away_price side (book_of (M.RankedMemory.state self.now.memory)) }
     {
         self.memory.look().away(side)
     }

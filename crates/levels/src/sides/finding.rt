@@ -1,6 +1,6 @@
 //! A price's place among the levels, and a queue's place among the parts.
 ghost use Rattle.std.specs.Prelude.{◌≡◌, ◌+◌, ◌<◌, ◌≤◌, true, ◌++◌, length, get_or, take, drop, ◌≢◌, slice_index_or, slice_set};
-ghost use Rattle.std.specs.List.{AllByRecursion as All};
+ghost use Rattle.std.specs.List.{AllByRecursion};
 ghost use Rattle.arrays.specs.Items.{items};
 ghost use Rattle.rules.specs.Books.{Level, ranked_by};
 ghost use Rattle.rules.specs.Changes.{on_price};
@@ -57,7 +57,7 @@ impl Levels {
     pub fn find_price(&self, price: u32) -> usize
         ensures within { result ≤ length (levels_of self.now) }
         ensures found { (d : Level) → result < length (levels_of self.now) → (get_or (levels_of self.now) result d).price ≡ price }
-        ensures others { All (λ l. (l.price ≢ price)) (take result (levels_of self.now)) }
+        ensures others { AllByRecursion (λ l. (l.price ≢ price)) (take result (levels_of self.now)) }
     {
         for i in 0..self.heads.len() {
             if self.heads.at(i).price == price {

@@ -1,6 +1,6 @@
 //! The levels of a side are looked at.
 ghost use Rattle.std.specs.Prelude.{◌≡◌, ◌^◌, ◌<◌, ◌≤◌, length, get_or, slice_index_or};
-ghost use Rattle.std.specs.List.{AllByRecursion as All};
+ghost use Rattle.std.specs.List.{AllByRecursion};
 ghost use Rattle.allocation.specs.Dealings.{total};
 ghost use Rattle.allocation.specs.Memory.{wheel_of};
 ghost use Rattle.rules.specs.Books.{Level};
@@ -35,7 +35,7 @@ impl Levels {
         requires { i < length (levels_of self.now) }
         ensures value { (d : Level) → result.now ≡ (queue_of step (slice_index_or (levels_of self.now) i d)).parts }
         ensures short { length result.now ≤ 384 }
-        ensures limits { All WithinLimits result.now }
+        ensures limits { AllByRecursion WithinLimits result.now }
         ensures fits { total (claims result.now) < 2 ^ 32 }
     {
         let start = self.queue_start(i, step);

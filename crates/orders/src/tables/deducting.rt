@@ -1,6 +1,6 @@
 //! Trades take their shares off the orders at rest.
 ghost use Rattle.std.specs.Prelude.{◌≡◌, ◌≤◌};
-ghost use Rattle.std.specs.List.{AllByRecursion as All};
+ghost use Rattle.std.specs.List.{AllByRecursion};
 ghost use Rattle.rules.specs.Lists.{Distinct};
 ghost use Rattle.rules.specs.Invariants.{numbers};
 ghost use Rattle.orders.specs.Rows.{rows_of, orders_of};
@@ -14,7 +14,7 @@ impl OrderTable {
     fn deduct_row(&mut self, row: Row)
         requires once { Distinct (numbers (orders_of self.old)) }
         requires named { Named (numbers (orders_of self.old)) row }
-        requires enough { All (λ r. takes r.order.number row ≤ r.quantity) (rows_of self.old) }
+        requires enough { AllByRecursion (λ r. takes r.order.number row ≤ r.quantity) (rows_of self.old) }
         ensures { rows_of self.new ≡ deducted_by row (rows_of self.old) }
     {
         match row {
@@ -33,8 +33,8 @@ impl OrderTable {
     /// Trades take their shares off the orders that rested. No other row changes.
     pub fn deduct(&mut self, rows: &[Row])
         requires once { Distinct (numbers (orders_of self.old)) }
-        requires named { All (Named (numbers (orders_of self.old))) rows.now }
-        requires enough { All (λ r. taken_from r.order.number rows.now ≤ r.quantity) (rows_of self.old) }
+        requires named { AllByRecursion (Named (numbers (orders_of self.old))) rows.now }
+        requires enough { AllByRecursion (λ r. taken_from r.order.number rows.now ≤ r.quantity) (rows_of self.old) }
         ensures { rows_of self.new ≡ deducted rows.now (rows_of self.old) }
     {
         for i in 0..rows.len() {

@@ -1,6 +1,6 @@
 //! The table is made, and looked at.
 ghost use Rattle.std.specs.Prelude.{◌≡◌, ◌<◌, ◌≤◌, [], length, get_or, take, ◌≢◌, slice_index_or};
-ghost use Rattle.std.specs.List.{AllByRecursion as All};
+ghost use Rattle.std.specs.List.{AllByRecursion};
 ghost use Rattle.orders.specs.Rows.{rows_of};
 
 use super::{ORDERS, OrderTable, Resting};
@@ -53,7 +53,7 @@ impl OrderTable {
     pub fn find(&self, number: u32) -> usize
         ensures within { result ≤ length (rows_of self.now) }
         ensures found { (d : Resting) → result < length (rows_of self.now) → (get_or (rows_of self.now) result d).order.number ≡ number }
-        ensures others { All (λ x. (x.order.number ≢ number)) (take result (rows_of self.now)) }
+        ensures others { AllByRecursion (λ x. (x.order.number ≢ number)) (take result (rows_of self.now)) }
     {
         for i in 0..self.len {
             if self.rows[i].order.number == number {

@@ -1,5 +1,5 @@
 use Rattle.std.proofs.Common.{sym, refl, ap, ◌∙◌, subst}
-use Rattle.std.specs.List.{AllByRecursion as All}
+use Rattle.std.specs.List.{AllByRecursion}
 use Rattle.rules.specs.declared.orders.Side.TheVariants.{Buy, Sell}
 use Rattle.rules.specs.Books.{Book, side, other, with_sides}
 use Rattle.resting.specs.Alone.{Without}
@@ -12,7 +12,7 @@ returns-in-Buy c =
     let b : Book = book_of c.args.state.now in
     let n = c.args.order.number in
     record {
-      book = ap (λ ls. with_sides ls b.sells b) c.take_off_side.ensures ∙ sym (off_on b.lot n c.args.quantity Buy b (subst (λ s. All (Without b.lot n) (side (other s) b)) c.in-Buy.is c.requires.elsewhere));
+      book = ap (λ ls. with_sides ls b.sells b) c.take_off_side.ensures ∙ sym (off_on b.lot n c.args.quantity Buy b (subst (λ s. AllByRecursion (Without b.lot n) (side (other s) b)) c.in-Buy.is c.requires.elsewhere));
       rows = refl;
     }
 
@@ -21,6 +21,6 @@ returns-in-Sell c =
     let b : Book = book_of c.args.state.now in
     let n = c.args.order.number in
     record {
-      book = ap (λ ls. with_sides b.buys ls b) c.take_off_side-in-Sell.ensures ∙ sym (off_on b.lot n c.args.quantity Sell b (subst (λ s. All (Without b.lot n) (side (other s) b)) c.in-Sell.is c.requires.elsewhere));
+      book = ap (λ ls. with_sides b.buys ls b) c.take_off_side-in-Sell.ensures ∙ sym (off_on b.lot n c.args.quantity Sell b (subst (λ s. AllByRecursion (Without b.lot n) (side (other s) b)) c.in-Sell.is c.requires.elsewhere));
       rows = refl;
     }

@@ -1,5 +1,5 @@
 use Rattle.std.proofs.Common.{◌≡◌, ◌-◌, ◌≤◌, List, [], length, take, sym, ap, ◌∙◌, subst, arith}
-use Rattle.std.specs.List.{AllByRecursion as All}
+use Rattle.std.specs.List.{AllByRecursion}
 use Rattle.rules.specs.declared.answers.Row.{Row}
 use Rattle.rules.specs.Books.{Book, ranked_by}
 use Rattle.rules.specs.Reserve.{replenish}
@@ -50,9 +50,9 @@ settle_trades-requires g c =
     let front : take (t.result.rows - 0) t.new.report ≡ rows = ap (take (t.result.rows - 0)) t.ensures.rows ∙ front_rows c.args.report.now rows t.result.rows t.ensures.count in
     record {
       book = subst (λ (x : Book). Underway rank x.lot x.orders 128 x) (sym t.ensures.book) (after_underway rank O deal D b e s);
-      named = subst (λ (ys : List Row). All (Named (numbers (orders_of t.new.state.orders))) ys) (sym front) (subst (λ (tb : OrderTable). All (Named (numbers (orders_of tb))) rows) (sym t.ensures.orders) (rows_named rank O deal D b e s));
-      enough = subst (λ (ys : List Row). All (λ r. taken_from r.order.number ys ≤ r.quantity) (rows_of t.new.state.orders)) (sym front)
-          (subst (λ (tb : OrderTable). All (λ r. taken_from r.order.number rows ≤ r.quantity) (rows_of tb)) (sym t.ensures.orders) (rows_enough rank O deal D b e s (rows_of c.args.state.now.orders) c.requires.stands.tallied));
+      named = subst (λ (ys : List Row). AllByRecursion (Named (numbers (orders_of t.new.state.orders))) ys) (sym front) (subst (λ (tb : OrderTable). AllByRecursion (Named (numbers (orders_of tb))) rows) (sym t.ensures.orders) (rows_named rank O deal D b e s));
+      enough = subst (λ (ys : List Row). AllByRecursion (λ r. taken_from r.order.number ys ≤ r.quantity) (rows_of t.new.state.orders)) (sym front)
+          (subst (λ (tb : OrderTable). AllByRecursion (λ r. taken_from r.order.number rows ≤ r.quantity) (rows_of tb)) (sym t.ensures.orders) (rows_enough rank O deal D b e s (rows_of c.args.state.now.orders) c.requires.stands.tallied));
     }
 
 pub returns-then-n-gt0 : goal.returns-then-n-gt0

@@ -1,7 +1,7 @@
 use Rattle.std.proofs.Common.{◌≡◌, ℕ, ◌-◌, ◌<◌, List, [], map, length, sym, ap, ◌∙◌, subst, rules}
 use mathlib.Core.Path.{fun_ext}
 use mathlib.Core.List.{map-map}
-use Rattle.std.specs.List.{AllByRecursion as All}
+use Rattle.std.specs.List.{AllByRecursion}
 use Rattle.allocation.specs.ByTime.{time_shares}
 use Rattle.allocation.specs.Amounts.{amounts}
 use Rattle.allocation.specs.Turns.{Stage, turns}
@@ -26,7 +26,7 @@ by_time-requires g c =
     let long : length c.take_turns-taken.result ≡ 25 = search rules in
     record {
       one_each = c.requires.one_each;
-      groups_there = subst (λ (n : ℕ). All (λ x. (g.C.Claimed.claim x).participant < n) c.args.claims.now) (sym long) c.requires.known;
+      groups_there = subst (λ (n : ℕ). AllByRecursion (λ x. (g.C.Claimed.claim x).participant < n) c.args.claims.now) (sym long) c.requires.known;
     }
 
 pub returns : goal.returns

@@ -1,5 +1,5 @@
 use Rattle.std.proofs.Common.{◌≡◌, ◌<◌, List, length, get_or, take, sym, ap, ◌∙◌, subst, arith}
-use Rattle.std.specs.List.{AllByRecursion as All}
+use Rattle.std.specs.List.{AllByRecursion}
 use Rattle.std.proofs.lemmas.List.{take_more}
 use Rattle.std.proofs.ByRecursion.{All-push}
 use Rattle.arrays.specs.Items.{items}
@@ -24,7 +24,7 @@ loop-i-preserved c =
     let i = c.loop-i.i in
     let lt : i < length (items s.heads) = omega (arith, c.len-i-end.ensures, c.loop-i-test.true) in
     let here = level_is s i c.at.result.now (nothing_at 0) lt c.at.ensures in
-    subst (λ (l : List Level). All (λ x. (x.price ≡ c.args.price → ⊥)) l) (sym (take_more (levels_of s) i (nothing_at 0) (omega (arith, prices s))))
+    subst (λ (l : List Level). AllByRecursion (λ x. (x.price ≡ c.args.price → ⊥)) l) (sym (take_more (levels_of s) i (nothing_at 0) (omega (arith, prices s))))
     (All-push (λ x. (x.price ≡ c.args.price → ⊥)) (take i (levels_of s)) (get_or (levels_of s) i (nothing_at 0)) c.loop-i.invariant (λ e. c.if-at-price.false (sym (ap (λ l. l.price) here) ∙ e)))
 
 pub returns : goal.returns
@@ -34,5 +34,5 @@ returns c =
     record {
       within = omega (arith, c.len.ensures, prices s);
       found = λ d lt. absurd (omega (arith, c.len.ensures, prices s, lt));
-      others = subst (λ n. All (λ (x : Level). (x.price ≡ c.args.price → ⊥)) (take n (levels_of s))) end c.loop-i.invariant;
+      others = subst (λ n. AllByRecursion (λ (x : Level). (x.price ≡ c.args.price → ⊥)) (take n (levels_of s))) end c.loop-i.invariant;
     }

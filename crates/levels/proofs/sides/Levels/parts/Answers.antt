@@ -1,5 +1,5 @@
 use Rattle.std.proofs.Common.{◌≡◌, ◌+◌, ◌<◌, ◌≤◌, List, length, get_or, take, drop, sym, refl, ap, ◌∙◌, subst, arith, lit<}
-use Rattle.std.specs.List.{AllByRecursion as All}
+use Rattle.std.specs.List.{AllByRecursion}
 use Rattle.std.proofs.lemmas.List.{length-take, length-drop}
 use Rattle.arrays.specs.Items.{items}
 use Rattle.rules.specs.Books.{Level}
@@ -26,7 +26,7 @@ returns c =
     let k = c.queue_start-start.result in
     let n = c.queue.result.now.count in
     let short : length c.slice.result.now ≤ 384 = omega (arith, ap length c.slice.ensures, length-take n (drop k (items s.parts)), length-drop k (items s.parts), bound s) in
-    let limits : All WithinLimits c.slice.result.now = subst (λ (ps : List Part). All WithinLimits ps) (sym c.slice.ensures) (limits_part (items s.parts) n k s.limits) in
+    let limits : AllByRecursion WithinLimits c.slice.result.now = subst (λ (ps : List Part). AllByRecursion WithinLimits ps) (sym c.slice.ensures) (limits_part (items s.parts) n k s.limits) in
     record {
       value = λ d. c.slice.ensures
           ∙ parts_here c.args.step (items s.heads) (items s.parts) c.args.i k n q (omega (arith, c.requires, prices s)) (c.queue_start-start.ensures.start q) (ap (λ x. x.count) (c.queue.ensures ∙ ap (head_of c.args.step) c.at.ensures)) d;

@@ -1,5 +1,5 @@
 use Rattle.std.proofs.Common.{◌<◌, ◌≤◌, length, sym, ap, ◌∙◌, subst}
-use Rattle.std.specs.List.{AllByRecursion as All}
+use Rattle.std.specs.List.{AllByRecursion}
 use Rattle.rules.specs.Invariants.{numbers}
 use Rattle.rules.specs.declared.answers.Row.{Row}
 use Rattle.orders.specs.Rows.{rows_of, orders_of}
@@ -16,7 +16,7 @@ decrement-requires c =
     let lt : c.find-i.result < length rs = found_within n rs c.find-i.result f.within f.others (subst (Named (numbers (orders_of c.args.self.now))) c.in-Trade.is c.requires.named) in
     record {
       place = lt;
-      there = λ d. enough_at n c.in-Trade.quantity rs c.find-i.result d lt (f.found d lt) (subst (λ (x : Row). All (λ r. takes r.order.number x ≤ r.quantity) rs) c.in-Trade.is c.requires.enough);
+      there = λ d. enough_at n c.in-Trade.quantity rs c.find-i.result d lt (f.found d lt) (subst (λ (x : Row). AllByRecursion (λ r. takes r.order.number x ≤ r.quantity) rs) c.in-Trade.is c.requires.enough);
     }
 
 pub returns-in-Trade : goal.returns-in-Trade

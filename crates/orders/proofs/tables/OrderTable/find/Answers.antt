@@ -1,5 +1,5 @@
 use Rattle.std.proofs.Common.{◌≡◌, ◌<◌, ◌≤◌, length, get_or, take, sym, ap, ◌∙◌, subst, arith}
-use Rattle.std.specs.List.{AllByRecursion as All}
+use Rattle.std.specs.List.{AllByRecursion}
 use Rattle.std.proofs.lemmas.List.{length-take-le}
 use Rattle.orders.specs.Rows.{rows_of}
 use Rattle.orders.specs.declared.tables.Resting.{Resting}
@@ -32,5 +32,5 @@ returns c =
     record {
       within = omega (arith, long);
       found = λ d lt. absurd (omega (arith, long, lt));
-      others = subst (λ n. All (λ (x : Resting). (x.order.number ≡ c.args.number → ⊥)) (take n (rows_of t))) end c.loop-i.invariant;
+      others = subst (λ n. AllByRecursion (λ (x : Resting). (x.order.number ≡ c.args.number → ⊥)) (take n (rows_of t))) end c.loop-i.invariant;
     }
