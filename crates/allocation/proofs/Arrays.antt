@@ -1,9 +1,9 @@
 -- A wheel's seats are the front of an array. Assumes nothing.
-use Rattle.std.proofs.Common.{◌≡◌, ℕ, zero, suc, ◌+◌, ◌-◌, ◌<◌, ◌≤◌, Bool, true, false, eqb, List, [], ◌∷◌, ◌++◌, length, get_or, take, drop, set, sym, refl, ap, ◌∙◌, subst, arith}
+use Rattle.std.proofs.Common.{◌≡◌, ℕ, zero, suc, ◌+◌, ◌-◌, ◌<◌, ◌≤◌, Bool, true, false, eqb, List, [], ◌∷◌, ◌++◌, length, get_or, take, drop, sym, refl, ap, ◌∙◌, arith}
 use native.Mathlib.Nat.{sub-zero}
 use Rattle.std.proofs.lemmas.Bool.{eq-eqb, ne_eqb}
 use Rattle.std.proofs.lemmas.List.{length-take-le, length-take, length-drop, take_at, get_or-take, get_or-drop, same_lists}
-use Rattle.allocation.specs.Wheels.{Wheel, wheel_with, first_served, first_stays, no_seat, first_seat}
+use Rattle.allocation.specs.Wheels.{wheel_with, first_served, first_stays, no_seat, first_seat}
 
 pub none_take : (n : ℕ) (xs : List ℕ) → n ≤ length xs → eqb n 0 ≡ no_seat (take n xs)
 none_take zero xs h = refl

@@ -1,9 +1,9 @@
 -- The lead law. Assumes nothing.
-use Rattle.std.proofs.Common.{◌≡◌, ℕ, zero, suc, ◌+◌, ◌-◌, ◌*◌, ◌<◌, ◌≤◌, min, Bool, true, false, cond, not, ◌||◌, eqb, ltb, ◌⊎◌, List, [], ◌∷◌, ◌++◌, map, filter, sym, refl, ap, ◌∙◌, subst, inl, inr, ⊎_elim, arith}
-use Rattle.std.proofs.lemmas.Bool.{cases_eq, eq-eqb, ne_eqb, eqb-true, eqb-false, ltb-true, ltb-false, cond_both, cases_Bool, cond-true, cond-false, true≢false}
-use Rattle.allocation.specs.Wheels.{Wheel, wheel_with, seats_of, has_first_seat, take_last_seat, lose_seat, first_stays, retain, other_than, first_served}
+use Rattle.std.proofs.Common.{◌≡◌, ℕ, ◌+◌, ◌<◌, ◌≤◌, Bool, cond, eqb, List, [], ◌∷◌, ◌++◌, filter, sym, refl, ap, subst, ⊎_elim, arith}
+use Rattle.std.proofs.lemmas.Bool.{cases_eq, eq-eqb, ne_eqb, eqb-false, cond_both, cond-true, cond-false}
+use Rattle.allocation.specs.Wheels.{Wheel, wheel_with, seats_of, first_stays, other_than, first_served}
 use Rattle.allocation.specs.Dealings.{Seated}
-use Rattle.allocation.specs.Leads.{Event, takes_turn, takes_seat, loses_seat, after, event_share, Legal, run, shares_taken, LegalRun, KeepsSeat, Sound, NobodyLeadsByMoreThanALot}
+use Rattle.allocation.specs.Leads.{Event, takes_turn, takes_seat, loses_seat, after, Legal, run, shares_taken, LegalRun, KeepsSeat, Sound, NobodyLeadsByMoreThanALot}
 use Rattle.allocation.proofs.Slack.{slack_of, slack_le, event_slack}
 use Rattle.allocation.specs.Seating.{seats_kept}
 use Rattle.allocation.specs.Counts.{seats_append}

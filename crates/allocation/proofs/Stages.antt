@@ -1,7 +1,7 @@
 -- Turns one after another, and that enough of them end a dealing. Assumes nothing.
-use Rattle.std.proofs.Common.{◌≡◌, ℕ, zero, suc, ◌+◌, ◌-◌, ◌<◌, ◌≤◌, min, Bool, true, false, cond, ◌||◌, eqb, sym, refl, ap, ◌∙◌, subst, ⊎_elim, suc-add, zero-add, arith}
+use Rattle.std.proofs.Common.{◌≡◌, ℕ, zero, suc, ◌+◌, ◌-◌, ◌<◌, ◌≤◌, Bool, true, false, cond, eqb, sym, refl, ap, ◌∙◌, subst, ⊎_elim, suc-add, zero-add, arith}
 use Rattle.std.proofs.lemmas.Bool.{cond_both, cond-true, or_parts, cases_lt}
-use Rattle.allocation.specs.Wheels.{seats_of, no_seat}
+use Rattle.allocation.specs.Wheels.{no_seat}
 use Rattle.allocation.specs.Turns.{Stage, turn, over, turns}
 use Rattle.allocation.specs.Dealings.{Seated}
 use Rattle.allocation.specs.Turning.{turn_seated, turn_takes, turns_end}

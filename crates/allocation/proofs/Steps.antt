@@ -3,7 +3,6 @@ use Rattle.std.proofs.Common.{◌≡◌, ℕ, ◌+◌, ◌-◌, ◌*◌, ◌<◌
 use mathlib.Core.Path.{fun_ext}
 use Rattle.std.proofs.lemmas.Bool.{cases_eq, eq-eqb, ne_eqb, or_parts, true≢false}
 use Rattle.allocation.specs.Wheels.{first_served, first_seat, no_seat, seats_of}
-use Rattle.allocation.specs.ByTime.{less}
 use Rattle.allocation.specs.Turns.{turn_share, turn, over}
 use Rattle.allocation.specs.Amounts.{amounts}
 use Rattle.allocation.specs.Memory.{wheel_of, stage_of}

@@ -1,11 +1,11 @@
 -- Parity is a run of turns. Assumes nothing.
-use Rattle.std.proofs.Common.{◌≡◌, ℕ, zero, suc, ◌+◌, ◌-◌, ◌<◌, ◌≤◌, min, Bool, true, false, cond, ◌||◌, eqb, ltb, List, [], ◌∷◌, ◌++◌, map, sym, refl, ap, ◌∙◌, subst, ⊎_elim, arith}
+use Rattle.std.proofs.Common.{◌≡◌, ℕ, zero, suc, ◌+◌, ◌-◌, ◌<◌, ◌≤◌, Bool, false, cond, eqb, ltb, List, [], ◌∷◌, sym, refl, ap, ◌∙◌, ⊎_elim, arith}
 use Rattle.std.proofs.lemmas.Bool.{cases_eq, eq-eqb, ne_eqb, cond_both, or_parts, true≢false}
-use Rattle.allocation.specs.Wheels.{Wheel, wheel_with, seats_of, has_first_seat, first_served, first_seat, no_seat}
+use Rattle.allocation.specs.Wheels.{Wheel, wheel_with, has_first_seat, first_seat, no_seat}
 use Rattle.allocation.specs.ByTime.{less}
 use Rattle.allocation.specs.Turns.{Stage, turn_share, turn, over, turns}
-use Rattle.allocation.specs.Dealings.{Seated, interest, share_of, claims_left, parity_end, parity}
-use Rattle.allocation.specs.Leads.{Event, takes_turn, after, event_share, run, shares_taken, LegalRun, KeepsSeat, Sound, IsTurn, RunOfTurns, ParityIsARunOfTurns}
+use Rattle.allocation.specs.Dealings.{Seated, interest, share_of, claims_left, parity}
+use Rattle.allocation.specs.Leads.{takes_turn, event_share, KeepsSeat, Sound, RunOfTurns, ParityIsARunOfTurns}
 use Rattle.allocation.specs.declared.claims.Claim.{Claim}
 use Rattle.allocation.proofs.Stages.{turns_seated}
 use Rattle.allocation.proofs.Slack.{slack_of}

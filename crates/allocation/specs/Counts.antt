@@ -1,9 +1,9 @@
 -- How often a participant is seated, and sums over seats. Assumes nothing.
-use Rattle.std.specs.Prelude.{◌≡◌, ℕ, ◌+◌, ◌-◌, ◌*◌, ◌<◌, ◌≤◌, min, Bool, true, false, cond, ◌⊎◌, List, [], ◌∷◌, ◌++◌, length, take, drop, ◌==◌, slice_index, slice_index_or, refl}
-use Rattle.std.proofs.Common.{sym, ap, ◌∙◌, inl, inr, ⊎_elim, arith, add-mul, zero-mul, one-mul, mul-one, mul-zero}
+use Rattle.std.specs.Prelude.{◌≡◌, ℕ, ◌+◌, ◌-◌, ◌*◌, ◌<◌, ◌≤◌, Bool, true, false, cond, List, [], ◌∷◌, ◌++◌, length, take, drop, ◌==◌, slice_index, slice_index_or, refl}
+use Rattle.std.proofs.Common.{sym, ap, ◌∙◌, ⊎_elim, arith, add-mul, zero-mul, one-mul}
 use Rattle.std.proofs.lemmas.List.{take_more, take-append-drop, take-take, take_all}
-use Rattle.std.proofs.lemmas.Bool.{cases_eq, eq-eqb, ne_eqb, eqb-true, eqb-false, cond_both}
-use Rattle.allocation.specs.Wheels.{Wheel, wheel_with, seats_of}
+use Rattle.std.proofs.lemmas.Bool.{cases_eq, eq-eqb, ne_eqb}
+use Rattle.allocation.specs.Wheels.{seats_of}
 use Rattle.allocation.specs.ByTime.{less}
 
 pub eqb_swap : (a b : ℕ) → (a == b) ≡ (b == a)

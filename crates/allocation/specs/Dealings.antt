@@ -1,6 +1,6 @@
 -- What a dealing answers, what every dealing must keep, and the two: by time and by parity.
 -- Assumes nothing.
-use Rattle.std.specs.Prelude.{◌≡◌, ℕ, ◌+◌, ◌-◌, ◌<◌, ◌≤◌, min, Bool, true, false, cond, List, [], ◌∷◌, map, ◌==◌, nat_lt}
+use Rattle.std.specs.Prelude.{◌≡◌, ℕ, ◌+◌, ◌-◌, ◌<◌, ◌≤◌, min, cond, List, [], ◌∷◌, map, ◌==◌, nat_lt}
 use Rattle.allocation.specs.Wheels.{Wheel, seats_of, retain}
 use Rattle.allocation.specs.ByTime.{time_shares, shares_in_order}
 use Rattle.allocation.specs.Turns.{Stage, turns}

@@ -1,12 +1,10 @@
 -- Who sits, when a seat is taken, kept or lost. Assumes nothing.
-use Rattle.std.specs.Prelude.{◌≡◌, ℕ, zero, suc, ◌+◌, ◌<◌, ◌≤◌, min, Bool, true, false, cond, not, List, [], ◌∷◌, ◌++◌, length, filter, ◌==◌, ◌≢◌, nat_lt, refl}
+use Rattle.std.specs.Prelude.{◌≡◌, ℕ, ◌<◌, min, Bool, true, false, cond, List, [], ◌∷◌, length, filter, ◌==◌, ◌≢◌, nat_lt, refl}
 use Rattle.std.proofs.Common.{sym, ap, ◌∙◌, subst, ⊎_elim, arith}
-use Rattle.std.specs.List.{AllByRecursion}
 use Rattle.std.proofs.lemmas.List.{length_push}
 use Rattle.std.proofs.lemmas.Bool.{cases_eq, eq-eqb, ne_eqb, ltb-true, ltb-false, cond_both}
-use Rattle.allocation.specs.Wheels.{Wheel, wheel_with, seats_of, first_stays, retain, other_than, take_last_seat, lose_seat, ensure_seat}
-use Rattle.allocation.specs.Dealings.{Seated, interest}
-use Rattle.allocation.specs.declared.claims.Claim.{Claim}
+use Rattle.allocation.specs.Wheels.{Wheel, seats_of, first_stays, retain, other_than, take_last_seat, lose_seat, ensure_seat}
+use Rattle.allocation.specs.Dealings.{Seated}
 use Rattle.allocation.specs.Counts.{seats_append}
 
 kept_same : (b : Bool) (k p : ℕ) (hs ps : List ℕ) → seats_of k hs ≡ cond b (seats_of k ps) 0 → seats_of k (cond b (p ∷ hs) hs) ≡ cond b (seats_of k (p ∷ ps)) 0

@@ -1,14 +1,14 @@
 -- What time-shares gives. Assumes nothing.
-use Rattle.std.specs.Prelude.{◌≡◌, ℕ, ◌+◌, ◌-◌, ◌*◌, ◌<◌, ◌≤◌, min, Bool, true, false, cond, ltb, ◌⊎◌, List, [], ◌∷◌, ◌++◌, map, filter, ◌==◌, nat_lt, refl}
-use Rattle.std.proofs.Common.{sym, ap, ◌∙◌, subst, inl, inr, ⊎_elim, arith, add-mul, zero-mul, one-mul, mul-one, mul-zero}
+use Rattle.std.specs.Prelude.{◌≡◌, ℕ, ◌+◌, ◌-◌, ◌*◌, ◌≤◌, min, Bool, true, false, cond, ltb, List, [], ◌∷◌, map, ◌==◌, nat_lt, refl}
+use Rattle.std.proofs.Common.{ap, ⊎_elim, arith, one-mul, mul-zero}
 use Rattle.std.specs.List.{AllByRecursion}
-use Rattle.std.proofs.lemmas.Bool.{cases_eq, eq-eqb, ne_eqb, eqb-true, eqb-false, ltb-true, ltb-false, cond_both}
-use Rattle.allocation.specs.Wheels.{Wheel, wheel_with, seats_of, first_stays}
+use Rattle.std.proofs.lemmas.Bool.{cases_eq, eq-eqb, ne_eqb, ltb-true, ltb-false, cond_both}
+use Rattle.allocation.specs.Wheels.{seats_of}
 use Rattle.allocation.specs.ByTime.{less, time_shares, shares_in_order}
-use Rattle.allocation.specs.Dealings.{Dealt, Lawful, WellDealt, Seated, Within, total, sum, interest, share_of, claims_left, by_participant, time}
+use Rattle.allocation.specs.Dealings.{Lawful, Within, total, sum, interest, share_of, claims_left, by_participant, time}
 use Rattle.allocation.specs.declared.claims.Claim.{Claim}
 use Rattle.allocation.specs.Seating.{retain_seated}
-use Rattle.allocation.specs.Counts.{across, across_add, across_same, across_point}
+use Rattle.allocation.specs.Counts.{across, across_add, across_point}
 
 pub within_groups : (f : Claim → ℕ × ℕ) → ((c : Claim) → (f c).1 ≡ c.size) → (cs : List Claim) (have : ℕ → ℕ) → Within (time_shares have (map f cs)) cs
 within_groups f e [] have = tt

@@ -1,14 +1,14 @@
 -- What the turns of parity keep, and that parity is lawful. Assumes nothing.
-use Rattle.std.specs.Prelude.{◌≡◌, ℕ, zero, suc, ◌+◌, ◌-◌, ◌*◌, ◌<◌, ◌≤◌, min, Bool, true, false, cond, ◌||◌, ◌⊎◌, List, [], ◌∷◌, ◌++◌, map, ◌==◌, nat_lt, refl}
-use Rattle.std.proofs.Common.{sym, ap, ◌∙◌, subst, inl, inr, ⊎_elim, arith, one-mul}
-use Rattle.std.proofs.lemmas.Bool.{cases_eq, eq-eqb, ne_eqb, eqb-true, eqb-false, ltb-true, ltb-false, cond_both, or_parts, or_cases, or_left, cases_Bool, cond-true, cond-false, true≢false}
+use Rattle.std.specs.Prelude.{◌≡◌, ℕ, zero, suc, ◌+◌, ◌-◌, ◌<◌, ◌≤◌, min, true, false, List, [], ◌∷◌, ◌++◌, map, ◌==◌, nat_lt, refl}
+use Rattle.std.proofs.Common.{sym, ap, ◌∙◌, ⊎_elim, arith, one-mul}
+use Rattle.std.proofs.lemmas.Bool.{cases_eq, eq-eqb, ne_eqb, eqb-true, eqb-false, ltb-true, ltb-false, cond_both, or_parts, or_cases, or_left, true≢false}
 use Rattle.allocation.specs.Wheels.{Wheel, wheel_with, seats_of, first_served, first_seat, no_seat}
 use Rattle.allocation.specs.ByTime.{less, time_shares}
 use Rattle.allocation.specs.Turns.{Stage, turn_share, turn, over, turns}
-use Rattle.allocation.specs.Dealings.{Dealt, Lawful, WellDealt, Seated, Within, total, sum, interest, share_of, claims_left, by_participant, parity_end, parity}
+use Rattle.allocation.specs.Dealings.{Lawful, Seated, total, sum, interest, share_of, claims_left, by_participant, parity_end, parity}
 use Rattle.allocation.specs.declared.claims.Claim.{Claim}
-use Rattle.allocation.specs.Counts.{across, across_add, across_same, across_less, across_sub, seats_append}
-use Rattle.allocation.specs.Shares.{within_groups, own_share, left_own, Placed, placed, sum_own, total_interest}
+use Rattle.allocation.specs.Counts.{across, across_same, across_less, across_sub, seats_append}
+use Rattle.allocation.specs.Shares.{within_groups, own_share, left_own, placed, sum_own, total_interest}
 
 abbrev round : List ℕ → ℕ → (ℕ → ℕ) → ℕ → Stage
 round seats used interests rest = record { wheel = wheel_with seats used; interests = interests; quantity = rest }

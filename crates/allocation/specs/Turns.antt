@@ -1,6 +1,6 @@
 -- Parity: turn by turn, the first seat takes what is left of its round lot.
 -- Assumes nothing.
-use Rattle.std.specs.Prelude.{◌≡◌, ℕ, zero, suc, ◌+◌, ◌-◌, min, Bool, true, false, cond, ◌||◌, List, [], ◌∷◌, ◌++◌, ◌==◌, nat_lt}
+use Rattle.std.specs.Prelude.{ℕ, zero, suc, ◌+◌, ◌-◌, min, Bool, cond, ◌||◌, ◌==◌, nat_lt}
 use Rattle.allocation.specs.Wheels.{Wheel, first_seat, no_seat, first_served}
 use Rattle.allocation.specs.ByTime.{less}
 

@@ -1,6 +1,6 @@
 -- The wheel: seats from the pointer onward, and how much of the round lot the first seat has used.
 -- Assumes nothing.
-use Rattle.std.specs.Prelude.{◌≡◌, ℕ, ◌+◌, ◌<◌, ◌≤◌, Bool, true, false, cond, not, List, [], ◌∷◌, ◌++◌, filter, ◌==◌, nat_lt}
+use Rattle.std.specs.Prelude.{ℕ, ◌+◌, Bool, true, false, cond, not, List, [], ◌∷◌, ◌++◌, filter, ◌==◌, nat_lt}
 
 -- each seat is the number of its participant; used is the first seat's
 pub record Wheel : Type 0 where

@@ -1,5 +1,5 @@
 -- A bounded list is no longer than its bound. Assumes nothing.
-use Rattle.std.proofs.Common.{◌≡◌, ℕ, ◌≤◌, length, arith}
+use Rattle.std.proofs.Common.{ℕ, ◌≤◌, length, arith}
 use Rattle.std.proofs.lemmas.List.{length-take}
 use Rattle.arrays.specs.Items.{items}
 use Rattle.arrays.specs.declared.ArrayVec.{ArrayVec}

@@ -1,5 +1,5 @@
 -- Buyers and sellers rank prices by a total order.
-use Rattle.std.proofs.Common.{◌≡◌, ℕ, ◌≤◌, true, ◌⊎◌, inl, inr, ⊎_elim, arith}
+use Rattle.std.proofs.Common.{inl, inr, ⊎_elim, arith}
 use Rattle.std.proofs.lemmas.Bool.{leb-true, le-leb}
 use Rattle.std.proofs.str.Laws.{order}
 use Rattle.allocation.specs.Rankings.{TotalOrder, higher_is_better, lower_is_better}

@@ -2,11 +2,10 @@
 use Rattle.std.proofs.Common.{◌≡◌, ℕ, ◌<◌, Bool, true, false, cond, leb, List, [], Ok, Err, Result, sym, refl, ap, ◌∙◌, subst, arith}
 use Rattle.std.proofs.lemmas.Bool.{leb-true, and_parts, not-false}
 use Rattle.allocation.specs.Rankings.{TotalOrder}
-use Rattle.allocation.specs.Dealings.{Deal, Lawful, time}
+use Rattle.allocation.specs.Dealings.{Deal, Lawful}
 use Rattle.rules.specs.declared.calls.Call.{Call}
 use Rattle.rules.specs.declared.answers.Row.{Row}
 use Rattle.rules.specs.declared.answers.Refusal.{Refusal}
-use Rattle.rules.specs.declared.answers.Refusal.TheVariants as Refusal
 use Rattle.rules.specs.Books.{Ranking, Book}
 use Rattle.rules.specs.Refusals.{bad_lot, within}
 use Rattle.rules.specs.Rules.{make, new_book, steps}

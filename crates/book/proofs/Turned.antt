@@ -1,10 +1,9 @@
 -- A ranking for buyers, and the same turned round for sellers, make the same rules.
-use Rattle.std.proofs.Common.{◌≡◌, ℕ, ◌-◌, min, Bool, true, false, cond, not, ◌&&◌, ◌||◌, eqb, leb, List, [], ◌∷◌, Some, None, fold, Option, sym, refl, ap, ◌∙◌}
+use Rattle.std.proofs.Common.{◌≡◌, ℕ, ◌-◌, min, Bool, true, false, cond, not, ◌&&◌, ◌||◌, eqb, leb, List, [], ◌∷◌, Some, None, fold, Option, refl, ap, ◌∙◌}
 use Rattle.allocation.specs.Dealings.{Deal}
 use Rattle.rules.specs.declared.orders.Side.{Side}
 use Rattle.rules.specs.declared.orders.Side.TheVariants.{Buy, Sell}
 use Rattle.rules.specs.declared.orders.Kind.{Kind}
-use Rattle.rules.specs.declared.orders.Kind.TheVariants as Kind
 use Rattle.rules.specs.declared.orders.Order.{Order}
 use Rattle.rules.specs.declared.calls.Call.{Call}
 use Rattle.rules.specs.declared.calls.Call.TheVariants.{Open, Halt, Resume, Close, Quote, Enter, Cancel, Reduce}
@@ -19,7 +18,7 @@ use Rattle.rules.specs.Reserve.{is_reserve, join_hidden, show_anew, hidden_of, o
 use Rattle.rules.specs.Refusals.{first, refusals, rests, next_phase, phase_after}
 use Rattle.rules.specs.Entering.{Outcome, done, place, shown_part, hidden_part, two_parts, with_order, arrived, trade, not_placed, finished, enter}
 use Rattle.rules.specs.Rules.{effect, settled, ruled, rule}
-use Rattle.rules.specs.Runs.{Ask, Event, run}
+use Rattle.rules.specs.Runs.{Ask, run}
 
 module _ (g : ℕ → ℕ → Bool) where
   abbrev r : Ranking

@@ -1,5 +1,5 @@
 -- Which letter a book has makes no difference. Assumes nothing.
-use Rattle.std.specs.Prelude.{◌≡◌, ℕ, Bool, List}
+use Rattle.std.specs.Prelude.{◌≡◌, ℕ, List}
 use Rattle.allocation.specs.Dealings.{Deal}
 use Rattle.allocation.specs.Rankings.{buyers_letter, sellers_letter, higher_is_better, lower_is_better}
 use Rattle.rules.specs.Books.{ranked_by}

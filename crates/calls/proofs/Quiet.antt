@@ -1,5 +1,5 @@
 -- Calls that trade nothing and give nothing back: what the rule makes of a sound book.
-use Rattle.std.proofs.Common.{◌≡◌, ℕ, ◌+◌, ◌<◌, ◌≤◌, Bool, true, false, cond, not, ◌&&◌, ◌||◌, ltb, List, [], ◌∷◌, map, length, Some, None, filter, Option, sym, refl, ap, ◌∙◌, subst, arith}
+use Rattle.std.proofs.Common.{◌≡◌, ℕ, ◌+◌, ◌<◌, ◌≤◌, Bool, true, false, not, ◌&&◌, ◌||◌, ltb, List, [], ◌∷◌, map, length, Some, None, filter, sym, refl, ap, ◌∙◌, subst}
 use Rattle.std.specs.List.{AllByRecursion}
 use Rattle.std.proofs.lemmas.Bool.{lt-ltb}
 use Rattle.std.proofs.ByRecursion.{All-weaker}
@@ -7,7 +7,6 @@ use Rattle.allocation.specs.Dealings.{Deal}
 use Rattle.rules.specs.declared.orders.Order.{Order}
 use Rattle.rules.specs.declared.orders.Part.{Part}
 use Rattle.rules.specs.declared.phases.Phase.{Phase}
-use Rattle.rules.specs.declared.phases.Phase.TheVariants as Phase
 use Rattle.rules.specs.declared.calls.Call.{Call}
 use Rattle.rules.specs.declared.calls.Call.TheVariants.{Open, Halt, Resume, Quote}
 use Rattle.rules.specs.declared.answers.Answer.TheVariants.{Accepted}
@@ -17,9 +16,8 @@ use Rattle.rules.specs.Books.{Level, Ranking, Book, part, with_sides, with_phase
 use Rattle.rules.specs.Quantities.{resting, of_side}
 use Rattle.rules.specs.Marks.{unmarked}
 use Rattle.rules.specs.Refusals.{first, refusals, phase_after, next_phase, bad_away, none}
-use Rattle.rules.specs.Entering.{Outcome, done}
+use Rattle.rules.specs.Entering.{done}
 use Rattle.rules.specs.Rules.{effect, tidy, empty, holds, settled, ruled, rule}
-use Rattle.rules.specs.Invariants.{SoundBook}
 use Rattle.rules.proofs.Effects.{unmarked_of}
 use Rattle.trading.specs.Written.{written}
 use Rattle.trading.proofs.Writing.{written_none}
@@ -28,7 +26,6 @@ use Rattle.orders.specs.declared.tables.Resting.{Resting}
 use Rattle.memory.specs.States.{book_of, Tallied, Stands}
 use Rattle.memory.specs.Following.{Follows, replied}
 use Rattle.memory.specs.declared.states.State.{State}
-use Rattle.memory.specs.declared.replies.Reply.{Reply}
 
 -- ## Tidying a book that is tidy
 

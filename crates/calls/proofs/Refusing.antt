@@ -2,18 +2,15 @@
 use Rattle.std.proofs.Common.{◌≡◌, ℕ, Bool, true, false, cond, eqb, leb, List, [], ◌∷◌, ◌++◌, length, Some, None, Option, sym, refl, ap, ◌∙◌, subst}
 use Rattle.std.specs.List.{AllByRecursion}
 use Rattle.allocation.specs.Dealings.{Deal}
-use Rattle.rules.specs.declared.phases.Phase.{Phase}
 use Rattle.rules.specs.declared.calls.Call.{Call}
 use Rattle.rules.specs.declared.calls.Call.TheVariants.{Open, Halt, Resume, Close, Quote, Enter, Cancel, Reduce}
 use Rattle.rules.specs.declared.orders.Order.{Order}
 use Rattle.rules.specs.declared.answers.Answer.TheVariants.{Refused}
 use Rattle.rules.specs.declared.answers.Refusal.{Refusal}
-use Rattle.rules.specs.declared.answers.Refusal.TheVariants as Refusal
 use Rattle.rules.specs.declared.answers.Row.{Row}
 use Rattle.rules.specs.Books.{Ranking, Book}
 use Rattle.rules.specs.Quantities.{resting}
-use Rattle.rules.specs.Refusals.{first, refusals, phase_after, out_of_phase, no_place, no_opposite, none, bad_number, bad_participant, bad_quantity, bad_price, bad_display, small_report, bad_away}
-use Rattle.rules.specs.Entering.{Outcome}
+use Rattle.rules.specs.Refusals.{first, refusals, phase_after, out_of_phase, no_place, no_opposite, none}
 use Rattle.rules.specs.Rules.{rule, ruled}
 use Rattle.rules.proofs.Rulings.{none_applies}
 use Rattle.trading.specs.Written.{written}

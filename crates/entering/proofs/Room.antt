@@ -17,7 +17,7 @@ use Rattle.rules.specs.Trading.{Traded, trade_side, in_reach}
 use Rattle.rules.specs.Reserve.{on, join_hidden, show_anew, hidden_of, replenish_order, replenish, is_reserve}
 use Rattle.rules.specs.Refusals.{rests, within}
 use Rattle.rules.specs.Entering.{trade, arrived}
-use Rattle.rules.specs.Invariants.{SoundBook, SoundLevel, Admitted, numbers, prices}
+use Rattle.rules.specs.Invariants.{SoundBook, SoundLevel, Admitted, numbers}
 use Rattle.rules.specs.Sizes.{parts_on, Small}
 use Rattle.rules.proofs.Fits.{Displays, AfterTrade, after_trading, side_good}
 use Rattle.rules.proofs.Ranked.{sorted_side, trade_side_prices}

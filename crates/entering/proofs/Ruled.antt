@@ -1,16 +1,14 @@
 -- The rule of an enter. Assumes nothing.
-use Rattle.std.proofs.Common.{◌≡◌, ℕ, ◌≤◌, Bool, true, false, cond, List, [], ◌∷◌, ◌++◌, Some, None, sym, refl, ap, ◌∙◌}
+use Rattle.std.proofs.Common.{◌≡◌, ℕ, ◌≤◌, Bool, false, cond, List, [], ◌∷◌, ◌++◌, Some, None, sym, refl, ap, ◌∙◌}
 use mathlib.Core.Bool.{false≢true}
 use Rattle.std.specs.List.{AllByRecursion}
 use Rattle.std.proofs.lemmas.Bool.{leb-false, ltb-false}
 use Rattle.allocation.specs.Dealings.{Deal}
 use Rattle.rules.specs.declared.orders.Order.{Order}
 use Rattle.rules.specs.declared.phases.Phase.{Phase}
-use Rattle.rules.specs.declared.phases.Phase.TheVariants as Phase
 use Rattle.rules.specs.declared.calls.Call.TheVariants.{Enter}
 use Rattle.rules.specs.declared.answers.Answer.TheVariants.{Refused}
 use Rattle.rules.specs.declared.answers.Refusal.{Refusal}
-use Rattle.rules.specs.declared.answers.Refusal.TheVariants as Refusal
 use Rattle.rules.specs.Books.{Ranking, Book}
 use Rattle.rules.specs.Refusals.{first, refusals, none, phase_after, next_phase, bad_number, bad_participant, bad_quantity, bad_price, bad_display, small_report, out_of_phase}
 use Rattle.rules.specs.Entering.{enter}

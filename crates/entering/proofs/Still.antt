@@ -4,7 +4,6 @@ use Rattle.allocation.specs.Dealings.{Deal}
 use Rattle.rules.specs.declared.orders.Side.{Side}
 use Rattle.rules.specs.declared.orders.Side.TheVariants.{Buy, Sell}
 use Rattle.rules.specs.declared.orders.Kind.{Kind}
-use Rattle.rules.specs.declared.orders.Kind.TheVariants as Kind
 use Rattle.rules.specs.declared.orders.Order.{Order}
 use Rattle.rules.specs.declared.phases.Phase.{Phase}
 use Rattle.rules.specs.Books.{Ranking, Book, good, other, side, away, with_side, with_phase}

@@ -3,7 +3,6 @@ use Rattle.std.specs.Prelude.{◌≡◌, ℕ, Bool, false, List, [], ◌∷◌, 
 use Rattle.rules.specs.declared.orders.Order.{Order}
 use Rattle.rules.specs.declared.calls.Call.TheVariants.{Enter}
 use Rattle.rules.specs.declared.answers.Refusal.{Refusal}
-use Rattle.rules.specs.declared.answers.Refusal.TheVariants as Refusal
 use Rattle.rules.specs.Books.{Book}
 use Rattle.rules.specs.Refusals.{bad_number, bad_participant, bad_quantity, bad_price, bad_display, small_report, out_of_phase, no_place, no_opposite}
 

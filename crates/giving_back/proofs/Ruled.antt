@@ -4,11 +4,9 @@ use mathlib.Core.Bool.{false≢true}
 use Rattle.std.proofs.lemmas.Bool.{eq-eqb, ne_eqb, le-leb, lt-leb}
 use Rattle.allocation.specs.Dealings.{Deal}
 use Rattle.rules.specs.declared.phases.Phase.{Phase}
-use Rattle.rules.specs.declared.phases.Phase.TheVariants as Phase
 use Rattle.rules.specs.declared.calls.Call.TheVariants.{Close, Cancel, Reduce}
 use Rattle.rules.specs.declared.answers.Answer.TheVariants.{Accepted, Refused}
 use Rattle.rules.specs.declared.answers.Refusal.{Refusal}
-use Rattle.rules.specs.declared.answers.Refusal.TheVariants as Refusal
 use Rattle.rules.specs.declared.answers.Row.TheVariants.{GivenBack}
 use Rattle.rules.specs.Lists.{sum_of}
 use Rattle.rules.specs.Books.{Ranking, Book, with_sides, with_phase}

@@ -1,12 +1,11 @@
 -- Parts within their limits. Assumes nothing.
-use Rattle.std.proofs.Common.{◌≡◌, ℕ, zero, suc, ◌+◌, ◌-◌, ◌*◌, ◌^◌, ◌<◌, ◌≤◌, Bool, true, false, cond, ◌&&◌, ltb, leb, List, [], ◌∷◌, ◌++◌, map, length, take, drop, refl, arith}
+use Rattle.std.proofs.Common.{◌≡◌, ℕ, ◌-◌, ◌*◌, ◌^◌, ◌<◌, ◌≤◌, Bool, true, false, cond, ◌&&◌, ltb, leb, List, [], ◌∷◌, ◌++◌, length, take, drop, refl, arith}
 use Rattle.std.specs.List.{AllByRecursion}
 use Rattle.std.proofs.lemmas.Bool.{and_parts, and_from, ltb-true, leb-true, lt-ltb, le-leb}
 use Rattle.std.proofs.ByRecursion.{All-append, All-take, All-drop}
 use Rattle.allocation.specs.Dealings.{total}
-use Rattle.allocation.specs.declared.claims.Claim.{Claim}
 use Rattle.rules.specs.Books.{part}
-use Rattle.rules.specs.Quantities.{claim, claims}
+use Rattle.rules.specs.Quantities.{claims}
 use Rattle.rules.specs.Changes.{lowered}
 use Rattle.rules.specs.declared.orders.Part.{Part}
 use Rattle.levels.specs.Limits.{WithinLimits, within_limits}

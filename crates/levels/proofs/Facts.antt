@@ -1,10 +1,10 @@
 -- What holds of the memory of every side. Assumes nothing.
-use Rattle.std.proofs.Common.{◌≡◌, ℕ, zero, suc, ◌+◌, ◌<◌, ◌≤◌, List, [], ◌∷◌, length, get_or, take, drop, sym, refl, ap, ◌∙◌, arith}
+use Rattle.std.proofs.Common.{◌≡◌, ℕ, zero, suc, ◌+◌, ◌<◌, ◌≤◌, List, [], ◌∷◌, length, get_or, take, drop, sym, ap, ◌∙◌, arith}
 use Rattle.std.proofs.lemmas.List.{get_or_default}
 use Rattle.arrays.specs.Items.{items}
 use Rattle.arrays.proofs.Bounds.{length_items}
 use Rattle.rules.specs.Books.{Level}
-use Rattle.levels.specs.Heads.{size, span, levels, level_of, count}
+use Rattle.levels.specs.Heads.{size, span, level_of, count}
 use Rattle.levels.specs.Sides.{levels_of}
 use Rattle.levels.specs.declared.heads.LevelHead.{LevelHead}
 use Rattle.levels.specs.declared.sides.Levels.{Levels}

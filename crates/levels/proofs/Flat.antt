@@ -1,15 +1,15 @@
 -- Levels whose parts stand one after the other. Assumes nothing.
-use Rattle.std.proofs.Common.{◌≡◌, ℕ, zero, suc, ◌+◌, ◌-◌, ◌<◌, ◌≤◌, min, Bool, true, false, cond, not, ◌&&◌, eqb, ltb, List, [], ◌∷◌, ◌++◌, length, get_or, take, drop, set, filter, sym, refl, ap, ◌∙◌, arith}
+use Rattle.std.proofs.Common.{◌≡◌, ℕ, zero, suc, ◌+◌, ◌<◌, ◌≤◌, Bool, true, false, cond, not, ◌&&◌, eqb, ltb, List, [], ◌∷◌, ◌++◌, length, get_or, take, drop, set, filter, sym, refl, ap, ◌∙◌, arith}
 use Rattle.std.proofs.lemmas.Bool.{ne_eqb, ltb-false}
 use Rattle.std.proofs.lemmas.Bool.Decides.{nat_tests}
 use Rattle.std.specs.List.{insert}
-use Rattle.std.proofs.lemmas.List.{length-take, length-take-le, length-drop, take-take, drop-drop, drop-take, take_at, drop_at, length_push}
-use Rattle.rules.specs.Books.{Level, level, Queue, queue}
+use Rattle.std.proofs.lemmas.List.{length-take, length-drop, take-take, drop-drop, drop-take, take_at, drop_at}
+use Rattle.rules.specs.Books.{Level, level, queue}
 use Rattle.rules.specs.Rules.{empty, holds}
 use Rattle.rules.specs.declared.orders.Part.{Part}
 use Rattle.levels.specs.Splices.{spliced}
 use Rattle.allocation.specs.Memory.{wheel_of}
-use Rattle.levels.specs.Heads.{size, span, queue_of_head, level_of, levels, count}
+use Rattle.levels.specs.Heads.{size, span, level_of, levels, count}
 use Rattle.levels.specs.declared.heads.QueueHead.{QueueHead}
 use Rattle.levels.specs.declared.heads.LevelHead.{LevelHead}
 use Rattle.allocation.specs.declared.wheels.Wheel.{Wheel}

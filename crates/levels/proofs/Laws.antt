@@ -1,6 +1,5 @@
 -- The queue of a step, from memory and back. Assumes nothing.
 use Rattle.std.proofs.Common.{◌≡◌, ℕ, ◌+◌, ◌<◌, ◌≤◌, Bool, ltb, List, [], ◌∷◌, ◌++◌, length, get_or, take, drop, set, filter, sym, refl, ap, ◌∙◌, add-zero, arith}
-use Rattle.std.specs.List.{insert}
 use Rattle.std.proofs.lemmas.List.{drop-drop, length_push, length-take, length-drop, length-set, set-get_or}
 use Rattle.allocation.specs.Wheels as Wheels
 use Rattle.allocation.specs.Dealings.{interest, claims_left}
@@ -8,7 +7,7 @@ use Rattle.allocation.specs.Memory.{wheel_of}
 use Rattle.allocation.specs.declared.wheels.Wheel.{Wheel}
 use Rattle.rules.specs.Books.{Level, Queue, queue}
 use Rattle.rules.specs.Quantities.{claims}
-use Rattle.rules.specs.Changes.{lowered, settle, put, lose}
+use Rattle.rules.specs.Changes.{lowered, settle, put}
 use Rattle.rules.specs.Trading.{queue_of, with_queue}
 use Rattle.rules.specs.declared.orders.Part.{Part}
 use Rattle.rules.specs.declared.phases.Step.{Step}
@@ -19,7 +18,7 @@ use Rattle.levels.specs.Heads.{size, span, queue_of_head, level_of, levels}
 use Rattle.levels.specs.Queues.{head_of, with_head, ahead}
 use Rattle.levels.specs.declared.heads.LevelHead.{LevelHead}
 use Rattle.levels.proofs.Flat.{queue_head, level_at, edit_shown, edit_hidden, span_at, span_set}
-use Rattle.levels.proofs.Stretches.{inserted_spliced, length_spliced, set_spliced}
+use Rattle.levels.proofs.Stretches.{length_spliced, set_spliced}
 
 pub head_fits : (t : Step) (h : LevelHead) → ahead t h + (head_of t h).count ≤ size h
 head_fits Setter h = omega arith

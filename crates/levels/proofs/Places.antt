@@ -1,8 +1,8 @@
 -- A price is found or made at its place. Assumes nothing.
-use Rattle.std.proofs.Common.{◌≡◌, ℕ, zero, suc, ◌+◌, ◌-◌, ◌<◌, ◌≤◌, Bool, true, false, cond, eqb, List, [], ◌∷◌, ◌++◌, length, get_or, take, drop, set, sym, refl, ap, ◌∙◌, ⊎_elim, append_assoc, arith}
+use Rattle.std.proofs.Common.{◌≡◌, ℕ, zero, suc, ◌+◌, ◌<◌, ◌≤◌, Bool, true, false, eqb, List, [], ◌∷◌, ◌++◌, length, get_or, take, drop, set, sym, refl, ap, ◌∙◌, ⊎_elim, append_assoc, arith}
 use Rattle.std.specs.List.{insert}
 use Rattle.std.proofs.lemmas.List.{take_more, at_drop_more, set_split, set_at, get_or_at, length-take-le, drop-drop, get_or-drop}
-use Rattle.std.proofs.lemmas.Bool.{cases_Bool, eqb-true, cond-true, cond-false, cond_both, both_ways}
+use Rattle.std.proofs.lemmas.Bool.{cases_Bool, eqb-true, cond_both, both_ways}
 use Rattle.allocation.specs.Rankings.{TotalOrder}
 use Rattle.rules.specs.Books.{Level, Ranking, good, same_side, nothing_at}
 use Rattle.rules.specs.Changes.{on_price}

@@ -1,8 +1,8 @@
 -- A list in which a stretch is replaced. Assumes nothing.
-use Rattle.std.proofs.Common.{◌≡◌, ℕ, zero, suc, ◌+◌, ◌-◌, ◌<◌, ◌≤◌, List, [], ◌∷◌, ◌++◌, length, take, drop, set, sym, refl, ap, ◌∙◌, append_assoc, arith}
+use Rattle.std.proofs.Common.{◌≡◌, ℕ, ◌+◌, ◌-◌, ◌<◌, ◌≤◌, List, [], ◌∷◌, ◌++◌, length, take, drop, set, sym, refl, ap, ◌∙◌, append_assoc, arith}
 use Rattle.std.specs.List.{insert}
 use Rattle.levels.specs.Splices.{spliced}
-use Rattle.std.proofs.lemmas.List.{length-take, length-take-le, length-drop, length-append, take_at, drop_at, take-take, drop-drop, take-append-le, take-append-drop, drop-take, set-append_left, set-append_right}
+use Rattle.std.proofs.lemmas.List.{length-take, length-take-le, length-drop, length-append, take_at, drop_at, take-take, drop-drop, take-append-drop, drop-take, set-append_left, set-append_right}
 
 module _ {X : Type 0} (xs : List X) (a b : ℕ) (ys : List X) (le : a ≤ length xs) where
   pub take_spliced : take a (spliced xs a b ys) ≡ take a xs

@@ -1,13 +1,12 @@
 -- A new book's memory stands, and every call that follows its rule leaves it standing.
-use Rattle.std.proofs.Common.{◌≡◌, ℕ, ◌<◌, List, [], length, sym, refl, ap, ◌∙◌, subst}
+use Rattle.std.proofs.Common.{◌≡◌, ℕ, ◌<◌, List, [], length, sym, subst}
 use Rattle.allocation.specs.Rankings.{TotalOrder}
-use Rattle.allocation.specs.Dealings.{Deal, Lawful, time}
+use Rattle.allocation.specs.Dealings.{Deal, Lawful}
 use Rattle.rules.specs.declared.calls.Call.{Call}
 use Rattle.rules.specs.declared.answers.Row.{Row}
 use Rattle.rules.specs.Books.{Ranking}
-use Rattle.rules.specs.Rules.{rule, new_book, steps}
+use Rattle.rules.specs.Rules.{new_book, steps}
 use Rattle.rules.specs.Invariants.{SoundBook}
-use Rattle.rules.specs.Tables.{GoodTable}
 use Rattle.rules.proofs.Kept.{rule_sound, new_sound}
 use Rattle.rules.proofs.Whole.{laws}
 use Rattle.orders.specs.Rows.{rows_of}

@@ -1,7 +1,6 @@
 -- What is left of an order at rest, by the levels of its side alone. Assumes nothing.
 use Rattle.std.specs.Prelude.{ℕ, ◌-◌, min, Bool, cond, List, ◌==◌}
 use Rattle.rules.specs.declared.orders.Kind.{Kind}
-use Rattle.rules.specs.declared.orders.Kind.TheVariants as Kind
 use Rattle.rules.specs.declared.orders.Order.{Order}
 use Rattle.rules.specs.Books.{Level, Ranking, part}
 use Rattle.rules.specs.Changes.{on_price, put_shown, put_hidden}

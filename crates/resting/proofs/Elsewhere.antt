@@ -1,14 +1,13 @@
 -- Taking shares off an order leaves the levels alone that have nothing of it. Assumes nothing.
-use Rattle.std.proofs.Common.{◌≡◌, ℕ, zero, suc, ◌+◌, ◌-◌, ◌<◌, ◌≤◌, min, Bool, true, false, cond, eqb, ltb, leb, List, [], ◌∷◌, reverse, length, get_or, take, drop, set, filter, sym, refl, ap, ◌∙◌, subst, arith}
+use Rattle.std.proofs.Common.{◌≡◌, ℕ, zero, suc, ◌+◌, ◌-◌, ◌<◌, ◌≤◌, Bool, true, cond, ltb, List, [], ◌∷◌, reverse, length, get_or, drop, set, filter, sym, refl, ap, ◌∙◌, subst, arith}
 use Rattle.std.specs.List.{AllByRecursion}
 use Rattle.std.proofs.lemmas.Bool.{lt-leb, lt-ltb, eq-eqb}
-use Rattle.std.proofs.lemmas.Bool.Decides.{nat_tests}
 use Rattle.allocation.specs.ByTime.{shares_in_order}
-use Rattle.allocation.specs.Wheels.{Wheel, wheel_with, seats_of, first_stays, retain}
+use Rattle.allocation.specs.Wheels.{Wheel, wheel_with, seats_of, first_stays}
 use Rattle.allocation.specs.Dealings.{Seated, interest, sum}
 use Rattle.rules.specs.Books.{Level, Queue, queue, level, part}
 use Rattle.rules.specs.Changes.{lowered, settle, lose}
-use Rattle.rules.specs.Quantities.{claims, of_part, pieces, of_order, of_level}
+use Rattle.rules.specs.Quantities.{claims, pieces, of_order, of_level}
 use Rattle.rules.specs.TakingOff.{take_off_level, take_off_side}
 use Rattle.rules.specs.declared.orders.Part.{Part}
 use Rattle.allocation.proofs.InOrder.{in_order_cons}

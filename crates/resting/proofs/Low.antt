@@ -1,5 +1,5 @@
 -- Orders that run low. Assumes nothing.
-use Rattle.std.proofs.Common.{◌≡◌, ℕ, zero, suc, ◌+◌, ◌-◌, ◌<◌, ◌≤◌, min, Bool, true, false, cond, ◌&&◌, eqb, ltb, List, [], ◌∷◌, length, get_or, set, sym, refl, ap, ◌∙◌, arith}
+use Rattle.std.proofs.Common.{◌≡◌, ℕ, zero, suc, ◌<◌, ◌≤◌, min, Bool, true, false, cond, ◌&&◌, List, [], ◌∷◌, length, get_or, set, sym, refl, ap, ◌∙◌, arith}
 use Rattle.std.proofs.lemmas.Bool.{eq-eqb}
 use Rattle.std.proofs.lemmas.Bool.Decides.{nat_tests}
 use Rattle.std.specs.List.{AllByRecursion}
@@ -9,7 +9,7 @@ use Rattle.allocation.specs.ByTime.{shares_in_order}
 use Rattle.rules.specs.Lists.{last_alone}
 use Rattle.rules.specs.Books.{Level, part, level, queue}
 use Rattle.rules.specs.Changes.{lose, put}
-use Rattle.rules.specs.Quantities.{claims, pieces, of_order, of_level}
+use Rattle.rules.specs.Quantities.{claims, pieces, of_order}
 use Rattle.rules.specs.Reserve.{runs_low, shows_two, raised, join_hidden, show_anew}
 use Rattle.rules.specs.declared.orders.Part.{Part}
 use Rattle.rules.specs.declared.orders.Order.{Order}

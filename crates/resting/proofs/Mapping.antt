@@ -1,9 +1,9 @@
 -- A list mapped in place, from its front. Assumes nothing.
 use Rattle.std.proofs.Common.{◌≡◌, ℕ, zero, suc, ◌+◌, ◌<◌, ◌≤◌, List, [], ◌∷◌, ◌++◌, map, length, get_or, take, drop, set, sym, refl, ap, ◌∙◌, append-nil, arith}
-use Rattle.std.proofs.lemmas.List.{take_all, drop_all, get_or-set_same, set-set, length-set}
+use Rattle.std.proofs.lemmas.List.{take_all, drop_all, get_or-set_same, set-set}
 use Rattle.rules.specs.Books.{Level, level, queue}
 use Rattle.rules.specs.declared.orders.Part.{Part}
-use Rattle.resting.specs.Unmarked.{plain, plain_level}
+use Rattle.resting.specs.Unmarked.{plain}
 
 -- the first k are mapped
 abbrev pub mapped : {X : Type 0} → (X → X) → ℕ → List X → List X

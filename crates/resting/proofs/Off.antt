@@ -1,6 +1,6 @@
 -- Shares taken off at one price. Assumes nothing.
-use Rattle.std.proofs.Common.{◌≡◌, ℕ, ◌+◌, ◌-◌, ◌<◌, ◌≤◌, min, List, [], ◌∷◌, ◌++◌, reverse, length, get_or, take, drop, set, sym, refl, ap, ◌∙◌, arith}
-use Rattle.std.proofs.lemmas.List.{take_at, drop_at, get_or-set_same, length-set, set-set}
+use Rattle.std.proofs.Common.{◌≡◌, ℕ, ◌-◌, ◌<◌, List, ◌++◌, reverse, length, get_or, take, drop, set, sym, ap, ◌∙◌, arith}
+use Rattle.std.proofs.lemmas.List.{take_at, drop_at, get_or-set_same, set-set}
 use Rattle.allocation.specs.ByTime.{shares_in_order}
 use Rattle.allocation.specs.Dealings.{sum}
 use Rattle.rules.specs.Books.{Level, level}

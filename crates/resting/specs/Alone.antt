@@ -1,9 +1,8 @@
 -- An order that rests at one price of a side alone. Assumes nothing.
-use Rattle.std.specs.Prelude.{◌≡◌, ℕ, ◌+◌, ◌<◌, List, take, drop}
+use Rattle.std.specs.Prelude.{◌≡◌, ℕ, ◌+◌, List, take, drop}
 use Rattle.std.specs.List.{AllByRecursion}
-use Rattle.allocation.specs.Dealings.{Seated, interest}
-use Rattle.rules.specs.Books.{Queue, Level}
-use Rattle.rules.specs.Quantities.{claims, of_level}
+use Rattle.rules.specs.Books.{Level}
+use Rattle.rules.specs.Quantities.{of_level}
 use Rattle.rules.specs.Invariants.{SoundQueue}
 
 -- a level whose queues are settled, and that has nothing of the order n

@@ -1,5 +1,5 @@
 -- Stages in a row, and the order of trades that they give. Assumes nothing.
-use Rattle.std.proofs.Common.{◌≡◌, ℕ, zero, suc, ◌+◌, ◌-◌, ◌<◌, ◌≤◌, Bool, true, false, cond, ◌||◌, eqb, ◌⊎◌, List, [], ◌∷◌, ◌++◌, map, sym, refl, ap, ◌∙◌, subst, inl, inr, arith}
+use Rattle.std.proofs.Common.{◌≡◌, ℕ, zero, suc, ◌+◌, ◌<◌, ◌≤◌, Bool, true, false, cond, ◌||◌, eqb, ◌⊎◌, List, [], ◌∷◌, ◌++◌, map, sym, refl, ap, ◌∙◌, subst, inl, inr, arith}
 use mathlib.Core.Bool.{false≢true}
 use Rattle.std.specs.List.{AllByRecursion}
 use Rattle.std.proofs.ByRecursion.{All-append, All-weaker}
@@ -12,7 +12,6 @@ use Rattle.rules.specs.declared.answers.Row.TheVariants.{Trade}
 use Rattle.rules.specs.Lists.{sum_of}
 use Rattle.rules.specs.Books.{Ranking, good, same_side, better}
 use Rattle.rules.specs.Trading.{rows_of}
-use Rattle.rules.specs.Refusals.{none, first}
 use Rattle.rules.specs.Tables.{place_of}
 use Rattle.rules.specs.OrderLaw.{Reached, reached_part, forget, untraded, rows_for, Better}
 use Rattle.rules.proofs.Amounts.{AtMost}

@@ -1,5 +1,5 @@
 -- How many parts there can be on a side, and how many rows. Assumes nothing.
-use Rattle.std.proofs.Common.{◌≡◌, ℕ, zero, suc, ◌+◌, ◌-◌, ◌*◌, ◌<◌, ◌≤◌, min, Bool, true, false, cond, not, ◌&&◌, ◌||◌, eqb, List, [], ◌∷◌, length, filter, sym, refl, ◌∙◌, subst, mul-zero, mul-one, mul-add, arith}
+use Rattle.std.proofs.Common.{◌≡◌, ℕ, zero, suc, ◌+◌, ◌*◌, ◌<◌, ◌≤◌, min, Bool, true, false, cond, not, ◌&&◌, ◌||◌, eqb, List, [], ◌∷◌, length, filter, sym, refl, ◌∙◌, subst, mul-zero, mul-one, mul-add, arith}
 use mathlib.Core.Bool.{false≢true}
 use Rattle.std.specs.List.{AllByRecursion}
 use Rattle.std.proofs.lemmas.List.{length-append}
@@ -11,7 +11,6 @@ use Rattle.rules.specs.declared.orders.Side.TheVariants.{Buy, Sell}
 use Rattle.rules.specs.declared.orders.Order.{Order}
 use Rattle.rules.specs.declared.orders.Part.{Part}
 use Rattle.rules.specs.declared.phases.Step.{Step}
-use Rattle.rules.specs.declared.phases.Step.TheVariants as Step
 use Rattle.rules.specs.declared.answers.Row.TheVariants.{Trade}
 use Rattle.rules.specs.Lists.{Distinct, sum_of, has}
 use Rattle.rules.specs.Books.{Level, same_side, Ranking}

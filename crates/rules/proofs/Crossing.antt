@@ -5,17 +5,14 @@ use Rattle.std.specs.List.{AllByRecursion}
 use Rattle.std.proofs.lemmas.List.{map-append}
 use Rattle.std.proofs.ByRecursion.{All-append, All-weaker}
 use Rattle.allocation.specs.Rankings.{TotalOrder}
-use Rattle.allocation.specs.ByTime.{less}
 use Rattle.allocation.specs.Dealings.{Deal, Lawful, Dealt, sum}
 use Rattle.rules.specs.declared.orders.Side.{Side}
 use Rattle.rules.specs.declared.orders.Part.{Part}
 use Rattle.rules.specs.declared.phases.Step.{Step}
-use Rattle.rules.specs.declared.phases.Step.TheVariants as Step
 use Rattle.rules.specs.declared.answers.Row.{Row}
-use Rattle.rules.specs.Books.{Level, good, queue, Ranking, better}
+use Rattle.rules.specs.Books.{Level, queue, Ranking, better}
 use Rattle.rules.specs.Changes.{lowered}
 use Rattle.rules.specs.Trading.{Traded, rows_of, traded, queue_of, step_shares, trade_price, with_queue, taken, trade_side, trade_reached}
-use Rattle.rules.specs.Refusals.{none}
 use Rattle.rules.specs.Tables.{has_step, same_step, place_of, count, GoodTable}
 use Rattle.rules.specs.OrderLaw.{of_step, rows_for, forget, at_level, Reached, at_levels}
 use Rattle.rules.specs.Invariants.{SoundLevel, BestFirst, prices}

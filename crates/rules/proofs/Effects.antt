@@ -1,5 +1,5 @@
 -- Every call keeps a book fit, and what an order had and brought is in the rows or rests. Assumes nothing.
-use Rattle.std.proofs.Common.{◌≡◌, ℕ, zero, ◌+◌, ◌-◌, ◌<◌, ◌≤◌, min, Bool, true, false, cond, not, ◌&&◌, ◌||◌, eqb, ltb, List, [], ◌∷◌, ◌++◌, map, filter, sym, refl, ap, ◌∙◌, subst, arith}
+use Rattle.std.proofs.Common.{◌≡◌, ℕ, ◌+◌, ◌-◌, ◌<◌, ◌≤◌, min, Bool, true, false, cond, not, ◌&&◌, ◌||◌, eqb, ltb, List, [], ◌∷◌, ◌++◌, map, filter, sym, refl, ap, ◌∙◌, subst, arith}
 use mathlib.Core.Bool.{false≢true}
 use Rattle.std.specs.List.{AllByRecursion}
 use Rattle.std.proofs.lemmas.List.{map_push}
@@ -8,7 +8,6 @@ use Rattle.std.proofs.lemmas.Bool.{or_parts, not-false, eqb-true, eqb-false}
 use Rattle.std.proofs.ByRecursion.{all_kept_by, All-push}
 use Rattle.allocation.specs.Dealings.{Seated, interest}
 use Rattle.rules.specs.declared.orders.Kind.{Kind}
-use Rattle.rules.specs.declared.orders.Kind.TheVariants as Kind
 use Rattle.rules.specs.declared.orders.Order.{Order}
 use Rattle.rules.specs.declared.orders.Part.{Part}
 use Rattle.rules.specs.declared.answers.Row.{Row}
@@ -21,7 +20,7 @@ use Rattle.rules.specs.TakingOff.{take_off}
 use Rattle.rules.specs.Trading.{Traded}
 use Rattle.rules.specs.Refusals.{rests, none}
 use Rattle.rules.specs.Entering.{place, not_placed, Outcome, finished, with_order}
-use Rattle.rules.specs.Rules.{holds, empty, tidy, steps, all_back}
+use Rattle.rules.specs.Rules.{holds, empty, tidy, all_back}
 use Rattle.rules.specs.Runs.{traded_in, given_back_in}
 use Rattle.rules.specs.Invariants.{numbers, SoundLevel}
 use Rattle.rules.proofs.Members.{has_push, distinct_push, sum_of_append}

@@ -6,10 +6,8 @@ use Rattle.std.proofs.lemmas.Bool.{le-leb}
 use Rattle.allocation.specs.Wheels.{Wheel}
 use Rattle.allocation.specs.Dealings.{sum, Deal, Lawful, Dealt}
 use Rattle.rules.specs.declared.orders.Category.{Category}
-use Rattle.rules.specs.declared.orders.Category.TheVariants as Category
 use Rattle.rules.specs.declared.orders.Part.{Part}
 use Rattle.rules.specs.declared.phases.Step.{Step}
-use Rattle.rules.specs.declared.phases.Step.TheVariants as Step
 use Rattle.rules.specs.Books.{Level}
 use Rattle.rules.specs.Changes.{lowered}
 use Rattle.rules.specs.Trading.{step_shares, dealing_shares, trade_price, trade_reached, trade_side, Traded}

@@ -2,12 +2,10 @@
 use Rattle.std.proofs.Common.{◌≡◌, ℕ, ◌+◌, ◌-◌, ◌<◌, min, Bool, true, false, cond, eqb, List, [], ◌∷◌, fold, sym, refl, ap, ◌∙◌, subst, arith}
 use Rattle.std.specs.List.{AllByRecursion}
 use Rattle.std.proofs.lemmas.Bool.{eqb-true, eqb-false}
-use Rattle.allocation.specs.ByTime.{less}
 use Rattle.allocation.specs.Dealings.{Deal, Lawful}
 use Rattle.rules.specs.declared.orders.Side.{Side}
 use Rattle.rules.specs.declared.orders.Side.TheVariants.{Buy, Sell}
 use Rattle.rules.specs.declared.orders.Kind.{Kind}
-use Rattle.rules.specs.declared.orders.Kind.TheVariants as Kind
 use Rattle.rules.specs.declared.orders.Order.{Order}
 use Rattle.rules.specs.Lists.{has, Distinct, sum_of}
 use Rattle.rules.specs.Books.{Book, side, Level, with_side, Ranking, other}
@@ -18,7 +16,6 @@ use Rattle.rules.specs.Trading.{Traded, in_reach, trade_side}
 use Rattle.rules.specs.Reserve.{on, is_reserve, replenish_order, replenish, join_hidden, hidden_of, show_anew}
 use Rattle.rules.specs.Refusals.{rests}
 use Rattle.rules.specs.Entering.{place, shown_part, hidden_part, two_parts, arrived, trade}
-use Rattle.rules.specs.LeadLaw.{arrives}
 use Rattle.rules.specs.Invariants.{SoundLevel, numbers}
 use Rattle.rules.proofs.Queues.{put_sound, put_of}
 use Rattle.rules.proofs.Levels.{on_price_good, on_price_of, join_hidden_good, join_hidden_of, show_anew_good, show_anew_of}

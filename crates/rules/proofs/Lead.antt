@@ -7,7 +7,6 @@ use Rattle.allocation.specs.Dealings.{parity}
 use Rattle.rules.specs.declared.orders.Side.{Side}
 use Rattle.rules.specs.declared.orders.Side.TheVariants.{Buy, Sell}
 use Rattle.rules.specs.declared.orders.Category.{Category}
-use Rattle.rules.specs.declared.orders.Category.TheVariants as Category
 use Rattle.rules.specs.declared.phases.Phase.{Phase}
 use Rattle.rules.specs.declared.phases.Step.{Step}
 use Rattle.rules.specs.declared.calls.Call.{Call}

@@ -4,15 +4,13 @@ use Rattle.std.specs.List.{AllByRecursion}
 use Rattle.std.proofs.lemmas.Bool.{eqb-true, or_parts, lt-ltb}
 use Rattle.std.proofs.lemmas.Bool.Decides.{nat_tests}
 use Rattle.allocation.specs.Wheels.{Wheel}
-use Rattle.allocation.specs.ByTime.{shares_in_order, less}
+use Rattle.allocation.specs.ByTime.{shares_in_order}
 use Rattle.allocation.specs.Dealings.{interest, share_of, sum, Dealt, parity}
 use Rattle.allocation.specs.declared.claims.Claim.{Claim}
 use Rattle.rules.specs.declared.orders.Category.{Category}
-use Rattle.rules.specs.declared.orders.Category.TheVariants as Category
 use Rattle.rules.specs.declared.orders.Order.{Order}
 use Rattle.rules.specs.declared.orders.Part.{Part}
 use Rattle.rules.specs.declared.phases.Step.{Step}
-use Rattle.rules.specs.declared.phases.Step.TheVariants as Step
 use Rattle.rules.specs.declared.answers.Row.{Row}
 use Rattle.rules.specs.Lists.{sum_of, has, Distinct}
 use Rattle.rules.specs.Books.{Queue, queue, Level}
@@ -20,7 +18,6 @@ use Rattle.rules.specs.Quantities.{claims}
 use Rattle.rules.specs.Changes.{lose, lowered, put}
 use Rattle.rules.specs.Trading.{rows_of, dealing_shares, setter_shares, step_shares, with_queue, queue_of, taken, Traded, trade_price, trade_reached, trade_side}
 use Rattle.rules.specs.Reserve.{on}
-use Rattle.rules.specs.Refusals.{none}
 use Rattle.rules.specs.LeadLaw.{owns, gained, queue_in, trades_on, deals_on, level_at}
 use Rattle.rules.specs.Invariants.{SoundQueue, SoundLevel, prices}
 use Rattle.rules.proofs.Ranked.{trade_reached_price}

@@ -1,5 +1,5 @@
 -- Orders by rising number, and what a sound book gives of its orders. Assumes nothing.
-use Rattle.std.proofs.Common.{◌≡◌, ℕ, zero, suc, ◌+◌, ◌-◌, ◌%◌, ◌<◌, ◌≤◌, Bool, true, false, cond, not, ◌&&◌, eqb, leb, List, [], ◌∷◌, ◌++◌, filter, sym, refl, ◌∙◌, subst, mod-eq_of_lt, arith}
+use Rattle.std.proofs.Common.{◌≡◌, ℕ, zero, suc, ◌+◌, ◌%◌, ◌<◌, ◌≤◌, Bool, true, false, cond, not, ◌&&◌, eqb, leb, List, [], ◌∷◌, ◌++◌, filter, sym, refl, ◌∙◌, subst, mod-eq_of_lt, arith}
 use mathlib.Core.Bool.{false≢true}
 use Rattle.std.specs.List.{AllByRecursion}
 use Rattle.std.proofs.lemmas.Bool.{eqb-true, ne_eqb, and_parts, or_from, not-false, leb-true, leb-false}
@@ -14,7 +14,6 @@ use Rattle.rules.specs.Books.{Level, Book, Ranking}
 use Rattle.rules.specs.Quantities.{of_order, of_side, of_level, resting}
 use Rattle.rules.specs.Reserve.{is_reserve}
 use Rattle.rules.specs.Refusals.{within}
-use Rattle.rules.specs.Rules.{steps}
 use Rattle.rules.specs.Invariants.{Rising, numbers, listed, Orderly, Admitted, SoundBook}
 use Rattle.rules.proofs.Fits.{Displays, Fit}
 use Rattle.rules.proofs.Rulings.{display_ok}

@@ -1,5 +1,5 @@
 -- Trades come in order. Assumes nothing.
-use Rattle.std.proofs.Common.{◌≡◌, ℕ, ◌-◌, ◌<◌, ◌≤◌, Bool, true, false, cond, eqb, List, [], ◌∷◌, map, Some, None, filter, Option, sym, refl, ap, ◌∙◌, subst, append-nil, arith}
+use Rattle.std.proofs.Common.{◌≡◌, ℕ, ◌<◌, ◌≤◌, Bool, true, false, cond, eqb, List, [], ◌∷◌, map, Some, None, filter, Option, sym, refl, ap, ◌∙◌, subst, append-nil, arith}
 use Rattle.std.specs.List.{AllByRecursion}
 use Rattle.std.proofs.lemmas.List.Elements.{filter-append}
 use Rattle.allocation.specs.Rankings.{TotalOrder}
@@ -14,9 +14,9 @@ use Rattle.rules.specs.declared.answers.Row.TheVariants.{Trade, GivenBack}
 use Rattle.rules.specs.Lists.{sum_of}
 use Rattle.rules.specs.Books.{Ranking, Book, good, Level, side, other}
 use Rattle.rules.specs.Trading.{trade_side, in_reach, Traded}
-use Rattle.rules.specs.Refusals.{within, first, refusals}
+use Rattle.rules.specs.Refusals.{first, refusals}
 use Rattle.rules.specs.Entering.{trade, finished, enter, arrived, not_placed}
-use Rattle.rules.specs.Rules.{steps, rule, effect, ruled, new_with}
+use Rattle.rules.specs.Rules.{rule, effect, ruled, new_with}
 use Rattle.rules.specs.Runs.{run, Ask, Entered}
 use Rattle.rules.specs.OrderLaw.{Reached, is_trade, rows_for, forget, at_levels, Better, InOrder, TradesInOrder}
 use Rattle.rules.specs.Invariants.{SoundLevel, BestFirst, prices}

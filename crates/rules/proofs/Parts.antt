@@ -11,7 +11,6 @@ use Rattle.rules.specs.Books.{part, Queue}
 use Rattle.rules.specs.Quantities.{of_order, pieces, of_part}
 use Rattle.rules.specs.Changes.{lowered, lose, put}
 use Rattle.rules.specs.Reserve.{raised}
-use Rattle.rules.specs.Refusals.{none}
 use Rattle.rules.specs.Invariants.{parts_of}
 use Rattle.rules.proofs.Members.{sum_of_append}
 use Rattle.rules.proofs.Queues.{sum_pieces}

@@ -9,10 +9,8 @@ use Rattle.allocation.specs.Dealings.{Deal}
 use Rattle.rules.specs.declared.orders.Side.{Side}
 use Rattle.rules.specs.declared.orders.Side.TheVariants.{Buy, Sell}
 use Rattle.rules.specs.declared.orders.Kind.{Kind}
-use Rattle.rules.specs.declared.orders.Kind.TheVariants as Kind
 use Rattle.rules.specs.declared.orders.Order.{Order}
 use Rattle.rules.specs.declared.phases.Step.{Step}
-use Rattle.rules.specs.declared.phases.Step.TheVariants as Step
 use Rattle.rules.specs.declared.calls.Call.{Call}
 use Rattle.rules.specs.declared.calls.Call.TheVariants.{Open, Halt, Resume, Close, Quote, Enter, Cancel, Reduce}
 use Rattle.rules.specs.declared.answers.Refusal.{Refusal}
@@ -26,7 +24,7 @@ use Rattle.rules.specs.Trading.{trade_price, trade_reached, trade_side, Traded, 
 use Rattle.rules.specs.Reserve.{on, join_hidden, runs_low, shows_two, show_anew, replenish, replenish_order, is_reserve, hidden_of}
 use Rattle.rules.specs.Refusals.{first, refusals}
 use Rattle.rules.specs.Entering.{trade, two_parts, place, shown_part, hidden_part, finished, enter, arrived, not_placed}
-use Rattle.rules.specs.Rules.{steps, effect, rule, tidy, ruled, holds}
+use Rattle.rules.specs.Rules.{effect, rule, tidy, ruled, holds}
 use Rattle.rules.specs.Invariants.{prices, BestFirst}
 use Rattle.rules.proofs.Chains.{good_chain, good_same}
 use Rattle.rules.proofs.Crossing.{Fine}

@@ -1,5 +1,5 @@
 -- A sound book, after an order has traded and its remainder is placed or given back. Assumes nothing.
-use Rattle.std.proofs.Common.{◌≡◌, ℕ, ◌+◌, ◌-◌, ◌<◌, ◌≤◌, Bool, true, false, cond, ◌&&◌, ◌||◌, eqb, leb, List, [], ◌∷◌, ◌++◌, length, None, fold, sym, refl, ap, ◌∙◌, subst, arith}
+use Rattle.std.proofs.Common.{◌≡◌, ℕ, ◌+◌, ◌<◌, ◌≤◌, Bool, true, false, cond, ◌&&◌, ◌||◌, eqb, leb, List, [], ◌∷◌, ◌++◌, length, None, fold, sym, refl, ap, ◌∙◌, subst, arith}
 use mathlib.Core.Bool.{false≢true}
 use Rattle.std.specs.List.{AllByRecursion}
 use Rattle.std.proofs.lemmas.List.{map_push, length_push}
@@ -11,7 +11,6 @@ use Rattle.rules.specs.declared.orders.Side.{Side}
 use Rattle.rules.specs.declared.orders.Side.TheVariants.{Buy, Sell}
 use Rattle.rules.specs.declared.orders.Order.{Order}
 use Rattle.rules.specs.declared.phases.Step.{Step}
-use Rattle.rules.specs.declared.phases.Step.TheVariants as Step
 use Rattle.rules.specs.declared.calls.Call.TheVariants.{Enter}
 use Rattle.rules.specs.Lists.{Distinct}
 use Rattle.rules.specs.Books.{Book, Level, Ranking, good, side, other, with_side}
@@ -20,7 +19,6 @@ use Rattle.rules.specs.Trading.{trade_side, in_reach, Traded}
 use Rattle.rules.specs.Reserve.{is_reserve, replenish, replenish_order}
 use Rattle.rules.specs.Refusals.{bad_number, bad_participant, bad_quantity, bad_price, bad_display, no_place, first, refusals, rests}
 use Rattle.rules.specs.Entering.{place, trade, arrived, not_placed, with_order}
-use Rattle.rules.specs.Rules.{steps}
 use Rattle.rules.specs.Tables.{count, has_step, same_step, GoodTable}
 use Rattle.rules.specs.Invariants.{SoundBook, SoundLevel, BestFirst, Orderly, numbers, Admitted, listed, Rising}
 use Rattle.rules.proofs.Members.{all_both}

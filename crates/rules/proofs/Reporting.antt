@@ -19,7 +19,7 @@ use Rattle.rules.specs.Books.{Book, Ranking, other, side, with_sides, with_quote
 use Rattle.rules.specs.Quantities.{resting}
 use Rattle.rules.specs.Marks.{unmarked}
 use Rattle.rules.specs.TakingOff.{take_off}
-use Rattle.rules.specs.Trading.{traded, Traded, in_reach}
+use Rattle.rules.specs.Trading.{Traded, in_reach}
 use Rattle.rules.specs.Refusals.{first, refusals, bad_quantity, within}
 use Rattle.rules.specs.Entering.{trade, arrived, finished, done, enter, not_placed}
 use Rattle.rules.specs.Rules.{row_traded, row_given_back, all_back, effect, rule, ruled}

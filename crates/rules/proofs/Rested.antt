@@ -1,5 +1,5 @@
 -- After replenishing no reserve order runs low. Assumes nothing.
-use Rattle.std.proofs.Common.{◌≡◌, ℕ, ◌-◌, ◌<◌, ◌≤◌, min, Bool, true, false, cond, eqb, List, [], ◌∷◌, fold, sym, refl, ap, ◌∙◌, subst, arith}
+use Rattle.std.proofs.Common.{◌≡◌, ℕ, ◌<◌, ◌≤◌, min, Bool, true, false, cond, eqb, List, [], ◌∷◌, fold, sym, refl, ap, ◌∙◌, subst, arith}
 use mathlib.Core.Bool.{false≢true}
 use Rattle.std.specs.List.{AllByRecursion}
 use Rattle.std.proofs.lemmas.Bool.{eqb-true, eqb-false, ne_eqb, and_parts}
@@ -15,7 +15,6 @@ use Rattle.rules.specs.Quantities.{of_order}
 use Rattle.rules.specs.Changes.{on_price}
 use Rattle.rules.specs.Marks.{earns_mark}
 use Rattle.rules.specs.Reserve.{runs_low, on, replenish_order, is_reserve, join_hidden, hidden_of, show_anew}
-use Rattle.rules.specs.Refusals.{first}
 use Rattle.rules.specs.Invariants.{listed, Orderly, BestFirst, prices, SoundLevel, numbers}
 use Rattle.rules.proofs.Fits.{Displays}
 use Rattle.rules.proofs.Ranked.{on_price_sorted, join_hidden_still}

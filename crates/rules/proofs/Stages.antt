@@ -8,7 +8,6 @@ use Rattle.allocation.specs.Dealings.{sum, total, Deal, Lawful}
 use Rattle.allocation.specs.declared.claims.Claim.{Claim}
 use Rattle.rules.specs.declared.orders.Part.{Part}
 use Rattle.rules.specs.declared.phases.Step.{Step}
-use Rattle.rules.specs.declared.phases.Step.TheVariants as Step
 use Rattle.rules.specs.Lists.{sum_of}
 use Rattle.rules.specs.Books.{part, queue, Level, Queue}
 use Rattle.rules.specs.Quantities.{claims}

@@ -7,7 +7,6 @@ use Rattle.allocation.specs.Rankings.{TotalOrder}
 use Rattle.rules.specs.declared.orders.Side.{Side}
 use Rattle.rules.specs.declared.orders.Side.TheVariants.{Buy, Sell}
 use Rattle.rules.specs.declared.orders.Kind.{Kind}
-use Rattle.rules.specs.declared.orders.Kind.TheVariants as Kind
 use Rattle.rules.specs.declared.orders.Order.{Order}
 use Rattle.rules.specs.declared.orders.Part.{Part}
 use Rattle.rules.specs.Lists.{any}
@@ -16,7 +15,6 @@ use Rattle.rules.specs.Quantities.{best, of_order, of_side}
 use Rattle.rules.specs.Changes.{on_price, put_shown, put_hidden}
 use Rattle.rules.specs.Marks.{mark_at, earns_mark, beats, quoted}
 use Rattle.rules.specs.Reserve.{on, join_hidden, show_anew, hidden_of, replenish_order, is_reserve}
-use Rattle.rules.specs.Refusals.{first}
 use Rattle.rules.specs.Entering.{place, hidden_part, two_parts, shown_part}
 use Rattle.rules.specs.Invariants.{marked_parts, Orderly, BestFirst, prices, SoundLevel, listed, parts_of}
 use Rattle.rules.proofs.Members.{all_both}

@@ -9,11 +9,10 @@ use Rattle.allocation.specs.Dealings.{sum, Deal, Dealt, Lawful, WellDealt, inter
 use Rattle.allocation.specs.declared.claims.Claim.{Claim}
 use Rattle.rules.specs.declared.orders.Part.{Part}
 use Rattle.rules.specs.declared.phases.Step.{Step}
-use Rattle.rules.specs.declared.phases.Step.TheVariants as Step
 use Rattle.rules.specs.declared.answers.Row.{Row}
 use Rattle.rules.specs.declared.answers.Row.TheVariants.{Trade, GivenBack}
 use Rattle.rules.specs.Lists.{sum_of}
-use Rattle.rules.specs.Books.{Queue, queue, good, Level}
+use Rattle.rules.specs.Books.{Queue, queue, Level}
 use Rattle.rules.specs.Quantities.{claims, of_order, of_level, of_side}
 use Rattle.rules.specs.Changes.{lowered, lose}
 use Rattle.rules.specs.Trading.{rows_of, dealt, setter_shares, dealing_shares, queue_of, step_shares, taken, with_queue, trade_price, Traded, trade_reached, trade_side}

@@ -8,7 +8,6 @@ use Rattle.rules.specs.declared.orders.Side.{Side}
 use Rattle.rules.specs.declared.orders.Order.{Order}
 use Rattle.rules.specs.declared.orders.Part.{Part}
 use Rattle.rules.specs.declared.phases.Step.{Step}
-use Rattle.rules.specs.declared.phases.Step.TheVariants as Step
 use Rattle.rules.specs.Lists.{last_alone}
 use Rattle.rules.specs.Books.{Level, queue, part, level}
 use Rattle.rules.specs.Quantities.{of_level, pieces, of_order}

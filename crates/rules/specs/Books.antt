@@ -1,6 +1,6 @@
 -- What a book holds. A queue holds its parts in the order of their working times, so a new part goes last: there is no clock.
 -- Assumes nothing.
-use Rattle.std.specs.Prelude.{ℕ, Bool, true, false, cond, not, List, [], ◌∷◌, ◌==◌}
+use Rattle.std.specs.Prelude.{ℕ, Bool, true, false, cond, not, List, [], ◌==◌}
 use Rattle.allocation.specs.Wheels.{Wheel, wheel_with}
 use Rattle.rules.specs.declared.orders.Side.{Side}
 use Rattle.rules.specs.declared.orders.Side.TheVariants.{Buy, Sell}

@@ -1,13 +1,10 @@
 -- The worked cases, round lot 100, by parity. Assumes nothing.
-use Rattle.std.specs.Prelude.{◌≡◌, ℕ, Bool, true, false, cond, eqb, leb, List, [], ◌∷◌, ◌++◌, map}
+use Rattle.std.specs.Prelude.{◌≡◌, ℕ, Bool, true, false, List, [], ◌∷◌, ◌++◌, map}
 use Rattle.allocation.specs.Wheels.{Wheel, wheel_with}
 use Rattle.allocation.specs.Dealings.{parity}
 use Rattle.rules.specs.declared.orders.Side.{Side}
 use Rattle.rules.specs.declared.orders.Side.TheVariants.{Buy, Sell}
 use Rattle.rules.specs.declared.orders.Kind.{Kind}
-use Rattle.rules.specs.declared.orders.Kind.TheVariants as Kind
-use Rattle.rules.specs.declared.orders.Order.{Order}
-use Rattle.rules.specs.declared.phases.Phase.TheVariants as Phase
 use Rattle.rules.specs.declared.phases.Step.TheVariants as Step
 use Rattle.rules.specs.declared.calls.Call.{Call}
 use Rattle.rules.specs.declared.calls.Call.TheVariants.{Open, Halt, Resume, Quote, Enter, Cancel}
@@ -16,9 +13,7 @@ use Rattle.rules.specs.declared.answers.Answer.TheVariants.{Accepted}
 use Rattle.rules.specs.declared.answers.Row.{Row}
 use Rattle.rules.specs.declared.answers.Row.TheVariants.{Trade, GivenBack}
 use Rattle.rules.specs.Books.{Queue, Level, Ranking, Book, part, queue, level, no_seats, ranked_by}
-use Rattle.rules.specs.Quantities.{claim}
-use Rattle.rules.specs.Trading.{dealt}
-use Rattle.rules.specs.Rules.{steps, new_book}
+use Rattle.rules.specs.Rules.{new_book}
 use Rattle.rules.specs.Runs.{Ask, Event, run, final}
 use Rattle.allocation.specs.Rankings.{buyers_letter, higher_is_better}
 

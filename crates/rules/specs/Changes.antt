@@ -1,5 +1,5 @@
 -- Parts come, lose shares and go, and their wheel follows. Assumes nothing.
-use Rattle.std.specs.Prelude.{ℕ, ◌-◌, Bool, cond, List, [], ◌∷◌, ◌++◌, ◌==◌, nat_le, nat_lt}
+use Rattle.std.specs.Prelude.{ℕ, ◌-◌, cond, List, [], ◌∷◌, ◌++◌, ◌==◌, nat_le, nat_lt}
 use Rattle.allocation.specs.Wheels.{Wheel, ensure_seat, retain}
 use Rattle.allocation.specs.Dealings.{interest}
 use Rattle.rules.specs.declared.orders.Side.{Side}

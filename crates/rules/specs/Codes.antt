@@ -3,13 +3,9 @@ use Rattle.std.specs.Prelude.{ℕ}
 use Rattle.rules.specs.declared.orders.Side.{Side}
 use Rattle.rules.specs.declared.orders.Side.TheVariants.{Buy, Sell}
 use Rattle.rules.specs.declared.orders.Kind.{Kind}
-use Rattle.rules.specs.declared.orders.Kind.TheVariants as Kind
 use Rattle.rules.specs.declared.orders.Category.{Category}
-use Rattle.rules.specs.declared.orders.Category.TheVariants as Category
 use Rattle.rules.specs.declared.phases.Step.{Step}
-use Rattle.rules.specs.declared.phases.Step.TheVariants as Step
 use Rattle.rules.specs.declared.answers.Refusal.{Refusal}
-use Rattle.rules.specs.declared.answers.Refusal.TheVariants as Refusal
 use Rattle.rules.specs.declared.answers.Answer.{Answer}
 use Rattle.rules.specs.declared.answers.Answer.TheVariants.{Accepted, Refused}
 use Rattle.allocation.specs.Rankings.{buyers_letter, sellers_letter}

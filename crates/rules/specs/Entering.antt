@@ -3,7 +3,6 @@ use Rattle.std.specs.Prelude.{ℕ, ◌-◌, min, Bool, true, false, cond, not, �
 use Rattle.allocation.specs.Dealings.{Deal}
 use Rattle.rules.specs.declared.orders.Side.{Side}
 use Rattle.rules.specs.declared.orders.Kind.{Kind}
-use Rattle.rules.specs.declared.orders.Kind.TheVariants as Kind
 use Rattle.rules.specs.declared.orders.Order.{Order}
 use Rattle.rules.specs.declared.orders.Part.{Part}
 use Rattle.rules.specs.declared.answers.Answer.{Answer}

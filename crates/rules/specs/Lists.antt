@@ -1,5 +1,5 @@
 -- Numbers along a list. Assumes nothing.
-use Rattle.std.specs.Prelude.{◌≡◌, ℕ, ◌+◌, Bool, true, false, cond, ◌||◌, List, [], ◌∷◌, ◌==◌, nat_eq}
+use Rattle.std.specs.Prelude.{◌≡◌, ℕ, ◌+◌, Bool, false, cond, ◌||◌, List, [], ◌∷◌, ◌==◌, nat_eq}
 use Rattle.allocation.specs.Dealings.{sum}
 
 -- the sum of f over a list

@@ -1,5 +1,5 @@
 -- How many shares rest, of an order and at a price, and the best price of a side. Assumes nothing.
-use Rattle.std.specs.Prelude.{ℕ, ◌+◌, Bool, cond, List, [], ◌∷◌, map, Some, None, Option, ◌==◌, nat_le}
+use Rattle.std.specs.Prelude.{ℕ, ◌+◌, cond, List, [], ◌∷◌, map, Some, None, Option, ◌==◌, nat_le}
 use Rattle.allocation.specs.declared.claims.Claim.{Claim}
 use Rattle.rules.specs.declared.orders.Part.{Part}
 use Rattle.rules.specs.Lists.{sum_of}

@@ -1,20 +1,18 @@
 -- Small sessions, each of which shows a rule that is easily read otherwise. Round lot 100, by parity. Assumes nothing.
-use Rattle.std.specs.Prelude.{◌≡◌, ℕ, Bool, true, false, List, [], ◌∷◌, map, Ok, Err, Result}
-use Rattle.allocation.specs.Wheels.{Wheel, wheel_with}
+use Rattle.std.specs.Prelude.{◌≡◌, true, false, List, [], ◌∷◌, map, Ok, Err}
+use Rattle.allocation.specs.Wheels.{wheel_with}
 use Rattle.rules.specs.declared.orders.Side.TheVariants.{Buy, Sell}
 use Rattle.rules.specs.declared.orders.Kind.TheVariants as Kind
 use Rattle.rules.specs.declared.phases.Step.TheVariants as Step
-use Rattle.rules.specs.declared.calls.Call.TheVariants.{Open, Halt, Resume, Close, Quote, Cancel, Reduce}
+use Rattle.rules.specs.declared.calls.Call.TheVariants.{Open, Halt, Resume, Close, Quote, Reduce}
 use Rattle.rules.specs.declared.answers.Answer.{Answer}
 use Rattle.rules.specs.declared.answers.Answer.TheVariants.{Accepted, Refused}
 use Rattle.rules.specs.declared.answers.Refusal.{Refusal}
-use Rattle.rules.specs.declared.answers.Refusal.TheVariants as Refusal
 use Rattle.rules.specs.declared.answers.Row.{Row}
 use Rattle.rules.specs.declared.answers.Row.TheVariants.{Trade, GivenBack}
-use Rattle.rules.specs.Books.{Book}
 use Rattle.rules.specs.Rules.{new_book, make}
 use Rattle.rules.specs.Runs.{Ask, Event}
-use Rattle.rules.specs.Cases.{ask, enters, history, ends, what_came, wheels, marks, shown_and_hidden}
+use Rattle.rules.specs.Cases.{ask, enters, history, ends, wheels, marks, shown_and_hidden}
 
 -- the answer and the rows of the last call
 abbrev pub last_of : List Event → Answer × List Row

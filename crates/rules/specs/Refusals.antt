@@ -1,14 +1,11 @@
 -- When a call is refused. Assumes nothing.
 use Rattle.std.specs.Prelude.{ℕ, ◌%◌, Bool, true, false, cond, not, ◌&&◌, ◌||◌, List, [], ◌∷◌, length, Some, None, Option, ◌==◌, nat_le, nat_lt}
 use Rattle.rules.specs.declared.orders.Kind.{Kind}
-use Rattle.rules.specs.declared.orders.Kind.TheVariants as Kind
 use Rattle.rules.specs.declared.orders.Order.{Order}
 use Rattle.rules.specs.declared.phases.Phase.{Phase}
-use Rattle.rules.specs.declared.phases.Phase.TheVariants as Phase
 use Rattle.rules.specs.declared.calls.Call.{Call}
 use Rattle.rules.specs.declared.calls.Call.TheVariants.{Open, Halt, Resume, Close, Quote, Enter, Cancel, Reduce}
 use Rattle.rules.specs.declared.answers.Refusal.{Refusal}
-use Rattle.rules.specs.declared.answers.Refusal.TheVariants as Refusal
 use Rattle.rules.specs.Books.{Book, side, other, away}
 use Rattle.rules.specs.Quantities.{resting, best}
 use Rattle.rules.specs.Trading.{has_limit}

@@ -1,5 +1,5 @@
 -- What a call's answer and rows say of each other and of the book before it. Assumes nothing.
-use Rattle.std.specs.Prelude.{◌≡◌, ℕ, ◌+◌, ◌*◌, ◌<◌, ◌≤◌, true, ◌⊎◌, List, [], length}
+use Rattle.std.specs.Prelude.{◌≡◌, ℕ, ◌+◌, ◌*◌, ◌<◌, ◌≤◌, true, ◌⊎◌, [], length}
 use Rattle.std.specs.List.{AllByRecursion}
 use Rattle.allocation.specs.Dealings.{Deal}
 use Rattle.rules.specs.declared.calls.Call.{Call}

@@ -5,11 +5,9 @@ use Rattle.allocation.specs.ByTime.{shares_in_order}
 use Rattle.allocation.specs.Dealings.{Deal, Dealt, sum}
 use Rattle.rules.specs.declared.orders.Side.{Side}
 use Rattle.rules.specs.declared.orders.Kind.{Kind}
-use Rattle.rules.specs.declared.orders.Kind.TheVariants as Kind
 use Rattle.rules.specs.declared.orders.Order.{Order}
 use Rattle.rules.specs.declared.orders.Part.{Part}
 use Rattle.rules.specs.declared.phases.Step.{Step}
-use Rattle.rules.specs.declared.phases.Step.TheVariants as Step
 use Rattle.rules.specs.declared.answers.Row.{Row}
 use Rattle.rules.specs.declared.answers.Row.TheVariants.{Trade}
 use Rattle.rules.specs.Books.{Queue, Level, Ranking, Book, queue, level, good, other, away}

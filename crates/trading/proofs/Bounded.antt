@@ -1,16 +1,15 @@
 -- Trading writes no more rows than there are parts. Assumes nothing.
-use Rattle.std.proofs.Common.{◌≡◌, ℕ, zero, suc, ◌+◌, ◌-◌, ◌<◌, ◌≤◌, min, Bool, true, false, cond, eqb, leb, ◌⊎◌, List, [], ◌∷◌, ◌++◌, map, length, sym, refl, ap, ◌∙◌, subst, inl, inr, ⊎_elim, arith}
+use Rattle.std.proofs.Common.{◌≡◌, ℕ, zero, suc, ◌+◌, ◌-◌, ◌<◌, ◌≤◌, min, Bool, true, false, cond, eqb, leb, ◌⊎◌, List, [], ◌∷◌, map, length, sym, refl, ap, ◌∙◌, subst, inl, inr, ⊎_elim, arith}
 use Rattle.std.specs.List.{AllByRecursion}
 use Rattle.std.proofs.lemmas.List.{length-append}
-use Rattle.std.proofs.lemmas.Bool.{cases_eq, eq-eqb, ne_eqb, le-leb, lt-leb}
-use Rattle.std.proofs.lemmas.Bool.Decides.{nat_tests}
+use Rattle.std.proofs.lemmas.Bool.{cases_eq, eq-eqb, le-leb}
 use Rattle.allocation.specs.ByTime.{shares_in_order}
 use Rattle.allocation.specs.Wheels.{Wheel}
 use Rattle.allocation.specs.Dealings.{Deal, Lawful, Within, sum, total}
 use Rattle.rules.specs.Books.{Level, queue, part}
 use Rattle.rules.specs.Quantities.{claims}
 use Rattle.rules.specs.Changes.{lowered}
-use Rattle.rules.specs.Trading.{Traded, traded, queue_of, with_queue, setter_shares, dealing_shares, step_shares, taken, rows_of, trade_price, trade_reached, trade_side}
+use Rattle.rules.specs.Trading.{Traded, queue_of, with_queue, setter_shares, dealing_shares, step_shares, taken, rows_of, trade_price, trade_reached, trade_side}
 use Rattle.rules.specs.declared.orders.Part.{Part}
 use Rattle.rules.specs.declared.phases.Step.{Step}
 use Rattle.rules.specs.declared.phases.Step.TheVariants.{Setter, Displayed, Hidden}

@@ -1,18 +1,16 @@
 -- What one step does. Assumes nothing.
-use Rattle.std.proofs.Common.{◌≡◌, ℕ, zero, suc, ◌+◌, ◌-◌, ◌<◌, ◌≤◌, Bool, true, false, List, [], ◌∷◌, length, get_or, set, sym, refl, ap, ◌∙◌, subst, arith}
+use Rattle.std.proofs.Common.{◌≡◌, ℕ, zero, suc, ◌-◌, true, false, List, [], ◌∷◌, refl, ap, ◌∙◌, arith}
 use Rattle.std.proofs.lemmas.Bool.{both_ways}
-use Rattle.allocation.specs.Wheels.{Wheel}
 use Rattle.allocation.specs.Dealings.{Deal, Dealt, Lawful, sum}
-use Rattle.rules.specs.Books.{Level, Queue, queue}
+use Rattle.rules.specs.Books.{Level, queue}
 use Rattle.rules.specs.Changes.{lowered}
 use Rattle.rules.specs.Trading.{queue_of, with_queue, dealt, setter_shares, step_shares, rows_of}
 use Rattle.rules.specs.declared.orders.Part.{Part}
 use Rattle.rules.specs.declared.phases.Step.{Step}
 use Rattle.rules.specs.declared.phases.Step.TheVariants.{Setter, Displayed, Hidden}
-use Rattle.rules.specs.declared.answers.Row.{Row}
 use Rattle.rules.specs.Invariants.{SoundQueue, SoundLevel}
 use Rattle.rules.proofs.Trades.{lowered_none, fair_shares, with_good}
-use Rattle.trading.specs.Steps.{step_rest, step_rows, opens, part_shares, open_shares, open_rest, open_rows}
+use Rattle.trading.specs.Steps.{step_rest, step_rows, opens, part_shares, open_shares}
 
 -- ## Nothing is dealt without quantity or claims
 

@@ -1,7 +1,7 @@
 -- Price after price of a side. Assumes nothing.
-use Rattle.std.proofs.Common.{◌≡◌, ℕ, zero, suc, ◌+◌, ◌-◌, ◌<◌, ◌≤◌, Bool, true, false, List, [], ◌∷◌, ◌++◌, length, get_or, take, drop, set, sym, refl, ap, ◌∙◌, subst, append_assoc, append-nil, arith}
+use Rattle.std.proofs.Common.{◌≡◌, ℕ, ◌+◌, ◌-◌, ◌<◌, ◌≤◌, Bool, true, false, List, [], ◌∷◌, ◌++◌, length, take, drop, set, sym, refl, ap, ◌∙◌, subst, append_assoc, arith}
 use Rattle.std.specs.List.{AllByRecursion}
-use Rattle.std.proofs.lemmas.List.{set-get_or, drop_more, drop_all, take_more, take_more_set, drop-set-lt, take_all, length-append, take-append-drop}
+use Rattle.std.proofs.lemmas.List.{set-get_or, drop_more, drop_all, take_more_set, drop-set-lt, length-append, take-append-drop}
 use Rattle.allocation.specs.Dealings.{Deal, sum}
 use Rattle.rules.specs.Books.{Level, nothing_at}
 use Rattle.rules.specs.Trading.{Traded, traded, step_shares, trade_price, trade_reached, trade_side}

@@ -1,16 +1,15 @@
 -- Step after step at a price, and price after price. Assumes nothing.
-use Rattle.std.proofs.Common.{◌≡◌, ℕ, zero, suc, ◌+◌, ◌-◌, ◌<◌, ◌≤◌, Bool, true, false, List, [], ◌∷◌, ◌++◌, length, get_or, take, drop, set, sym, refl, ap, ◌∙◌, subst, append_assoc, append-nil, arith}
-use Rattle.std.specs.List.{AllByRecursion}
-use Rattle.std.proofs.lemmas.List.{set-get_or, get_or-set_same, length-set, drop_more, drop_all, take_more, take_more_set, drop-set-lt, take_all, length-append, take-append-drop}
+use Rattle.std.proofs.Common.{◌≡◌, ℕ, zero, suc, ◌+◌, ◌-◌, ◌<◌, ◌≤◌, List, [], ◌∷◌, ◌++◌, length, get_or, drop, set, sym, refl, ap, ◌∙◌, subst, arith}
+use Rattle.std.proofs.lemmas.List.{set-get_or, get_or-set_same, length-set, drop_more, drop_all, length-append}
 use Rattle.allocation.specs.Dealings.{Deal, Lawful, sum}
 use Rattle.rules.specs.Books.{Level, nothing_at}
-use Rattle.rules.specs.Trading.{Traded, traded, step_shares, trade_price, trade_reached, trade_side}
+use Rattle.rules.specs.Trading.{Traded, step_shares, trade_price}
 use Rattle.rules.specs.declared.phases.Step.{Step}
 use Rattle.rules.specs.declared.answers.Row.{Row}
 use Rattle.trading.specs.Written.{written}
 use Rattle.trading.specs.Steps.{step_rest, step_rows, at_place}
 use Rattle.trading.proofs.Writing.{written_none, written_then, length_written}
-use Rattle.trading.proofs.Stepping.{no_quantity, idle_rest, idle_left, idle_rows, ready_step}
+use Rattle.trading.proofs.Stepping.{ready_step}
 use Rattle.rules.specs.Invariants.{SoundLevel}
 
 -- ## Step after step

@@ -1,10 +1,9 @@
 -- One step at a price, by itself. Assumes nothing.
-use Rattle.std.specs.Prelude.{ℕ, ◌<◌, Bool, true, not, List, nat_le, slice_index_or}
-use Rattle.std.specs.List.{AllByRecursion}
+use Rattle.std.specs.Prelude.{ℕ, Bool, true, not, List, nat_le, slice_index_or}
 use Rattle.allocation.specs.Wheels.{Wheel}
-use Rattle.allocation.specs.Dealings.{Deal, Dealt, Seated, interest}
+use Rattle.allocation.specs.Dealings.{Deal, Dealt}
 use Rattle.rules.specs.Lists.{sum_of}
-use Rattle.rules.specs.Books.{Queue, Level, queue, nothing_at}
+use Rattle.rules.specs.Books.{Level, queue, nothing_at}
 use Rattle.rules.specs.Quantities.{claims}
 use Rattle.rules.specs.Changes.{lowered}
 use Rattle.rules.specs.Trading.{queue_of, with_queue, setter_shares, step_shares, rows_of}

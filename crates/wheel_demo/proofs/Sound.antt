@@ -1,5 +1,5 @@
 -- What the ghost fields of a queue say, and that it stays so. Assumes nothing.
-use Rattle.std.proofs.Common.{◌≡◌, ℕ, ◌+◌, ◌<◌, ◌≤◌, min, true, cond, eqb, List, [], ◌∷◌, ◌++◌, filter, sym, refl, ap, ◌∙◌, subst, arith}
+use Rattle.std.proofs.Common.{◌≡◌, ℕ, ◌<◌, ◌≤◌, min, true, [], ◌∷◌, ◌++◌, filter, sym, refl, ◌∙◌, subst, arith}
 use mathlib.Core.Path.{fun_ext}
 use Rattle.std.proofs.ByRecursion.{all_kept_by, All-push}
 use Rattle.std.proofs.lemmas.Bool.{eq-eqb, ne_eqb}

@@ -1,4 +1,4 @@
-use Rattle.std.proofs.Common.{◌≡◌, ◌<◌, length, ap, ◌∙◌, arith}
+use Rattle.std.proofs.Common.{◌<◌, length, ap, ◌∙◌, arith}
 use Rattle.allocation.specs.Memory.{stage_of}
 use Rattle.allocation.proofs.Steps.{some_seat}
 use Rattle.allocation.proofs.Stages.{turns_one, turn_less}

@@ -1,4 +1,4 @@
-use Rattle.std.proofs.Common.{◌≡◌, ℕ, ◌+◌, ◌-◌, ◌*◌, ◌<◌, ◌≤◌, length, get_or, take, ap, ◌∙◌, mul-zero, arith, rules}
+use Rattle.std.proofs.Common.{◌≡◌, ◌-◌, ◌*◌, length, get_or, ap, ◌∙◌, mul-zero, arith, rules}
 use Rattle.std.proofs.lemmas.List.{take_all}
 use Rattle.allocation.specs.Wheels.{seats_of}
 use Rattle.allocation.specs.Amounts.{amounts}

@@ -1,7 +1,6 @@
-use Rattle.std.proofs.Common.{◌≡◌, ℕ, ◌+◌, ◌-◌, ◌<◌, map, length, get_or, ap, ◌∙◌, arith, rules}
+use Rattle.std.proofs.Common.{◌≡◌, ◌-◌, ◌<◌, map, length, get_or, ap, ◌∙◌, arith, rules}
 use Rattle.std.proofs.ByRecursion.{All-get_or}
 use Rattle.std.proofs.lemmas.List.{length-map}
-use Rattle.allocation.specs.Amounts.{amounts}
 use Rattle.allocation.proofs.Tables.{zeros, left_all, claim_read, counted_fits, counted_more}
 use Rattle.allocation.proofs.turns.interests_left.Goals as goal
 

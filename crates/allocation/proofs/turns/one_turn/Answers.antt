@@ -1,4 +1,4 @@
-use Rattle.std.proofs.Common.{◌≡◌, ℕ, ◌+◌, ◌-◌, ◌<◌, ◌≤◌, length, get_or, sym, refl, ap, ◌∙◌, arith, rules}
+use Rattle.std.proofs.Common.{arith}
 use Rattle.allocation.proofs.Steps.{first_place, next_stage, moved}
 use Rattle.allocation.proofs.turns.one_turn.Goals as goal
 

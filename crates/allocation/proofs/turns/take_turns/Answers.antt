@@ -1,7 +1,7 @@
-use Rattle.std.proofs.Common.{◌≡◌, ℕ, ◌+◌, ◌-◌, ◌<◌, ◌≤◌, true, false, eqb, sym, refl, ap, ◌∙◌, subst, arith}
+use Rattle.std.proofs.Common.{◌≡◌, true, eqb, sym, refl, ap, ◌∙◌, subst, arith}
 use Rattle.std.proofs.lemmas.Bool.{or_from, or_left, or_right, ne_eqb, eq-eqb}
 use Rattle.allocation.specs.Wheels.{no_seat}
-use Rattle.allocation.specs.Turns.{Stage, over, turns}
+use Rattle.allocation.specs.Turns.{Stage, over}
 use Rattle.allocation.specs.Dealings.{Seated}
 use Rattle.allocation.specs.Amounts.{amounts}
 use Rattle.allocation.specs.Memory.{wheel_of, stage_of}

@@ -1,7 +1,7 @@
-use Rattle.std.proofs.Common.{◌≡◌, ℕ, ◌+◌, ◌-◌, ◌*◌, ◌/◌, ◌<◌, ◌≤◌, min, length, sym, refl, ap, ◌∙◌, arith, rules}
+use Rattle.std.proofs.Common.{◌≡◌, ℕ, ◌-◌, ◌*◌, ◌/◌, ◌<◌, ◌≤◌, length, ap, ◌∙◌, arith}
 use Rattle.allocation.specs.Wheels.{seats_of}
 use Rattle.allocation.specs.Amounts.{amounts}
-use Rattle.allocation.specs.Memory.{wheel_of, stage_of}
+use Rattle.allocation.specs.Memory.{wheel_of}
 use Rattle.allocation.proofs.Steps.{some_seat}
 use Rattle.allocation.proofs.Laps.{laps_within, laps_dealt, seats_more}
 use Rattle.allocation.proofs.turns.whole_laps.Goals as goal

@@ -1,4 +1,4 @@
-use Rattle.std.proofs.Common.{◌≡◌, ◌+◌, ◌-◌, false, drop, ap, ◌∙◌}
+use Rattle.std.proofs.Common.{◌+◌, ◌-◌, false, drop, ap, ◌∙◌}
 use Rattle.rules.specs.Lists.{sum_of}
 use Rattle.rules.specs.Books.{part}
 use Rattle.amounts.proofs.Loops.{less_more, less_all, none_left}

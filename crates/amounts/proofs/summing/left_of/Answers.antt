@@ -1,4 +1,4 @@
-use Rattle.std.proofs.Common.{◌≡◌, ◌+◌, ◌-◌, drop, ap, ◌∙◌}
+use Rattle.std.proofs.Common.{◌+◌, ◌-◌, drop, ap, ◌∙◌}
 use Rattle.allocation.specs.Dealings.{sum}
 use Rattle.amounts.proofs.Loops.{sum_more, sum_all}
 use Rattle.amounts.proofs.summing.left_of.Goals as goal

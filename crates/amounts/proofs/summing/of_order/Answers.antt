@@ -1,4 +1,4 @@
-use Rattle.std.proofs.Common.{◌≡◌, false, sym, ap, ◌∙◌, arith}
+use Rattle.std.proofs.Common.{false, arith}
 use Rattle.std.proofs.lemmas.List.{at_drop_all}
 use Rattle.rules.specs.Lists.{sum_of}
 use Rattle.rules.specs.Quantities.{of_part}

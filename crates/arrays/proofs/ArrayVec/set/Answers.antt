@@ -1,4 +1,4 @@
-use Rattle.std.proofs.Common.{◌<◌, ◌≤◌, arith, rules}
+use Rattle.std.proofs.Common.{arith}
 use Rattle.std.proofs.lemmas.List.{length-take}
 use Rattle.arrays.proofs.Fronts.{set_front}
 use Rattle.arrays.proofs.ArrayVec.set.Goals as goal

@@ -1,7 +1,6 @@
-use Rattle.std.proofs.Common.{◌≡◌, ◌-◌, ◌<◌, length, get_or, take, sym, ap, ◌∙◌, arith, rules}
+use Rattle.std.proofs.Common.{◌≡◌, ◌-◌, ◌<◌, length, take, sym, ap, ◌∙◌, arith, rules}
 use Rattle.std.proofs.lemmas.List.{get_or_default}
-use Rattle.std.specs.List.{between}
-use Rattle.arrays.proofs.Fronts.{Closing, closing_none, closing_more}
+use Rattle.arrays.proofs.Fronts.{closing_none, closing_more}
 use Rattle.arrays.proofs.moving.close.Goals as goal
 
 pub loop-k-init : goal.loop-k-init

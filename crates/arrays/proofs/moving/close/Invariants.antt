@@ -1,4 +1,3 @@
-use Rattle.std.proofs.Common.{◌≡◌, ◌-◌}
 use Rattle.arrays.proofs.Fronts.{Closing}
 use Rattle.arrays.proofs.moving.close.Given as goal
 

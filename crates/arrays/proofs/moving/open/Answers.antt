@@ -1,4 +1,4 @@
-use Rattle.std.proofs.Common.{◌≡◌, ◌+◌, ◌-◌, ◌<◌, length, ◌∙◌, arith, rules}
+use Rattle.std.proofs.Common.{◌-◌, ◌<◌, length, ◌∙◌, arith, rules}
 use Rattle.std.proofs.lemmas.List.{get_or_default, length-set}
 use Rattle.arrays.proofs.Fronts.{opening_none, opening_more, opening_all}
 use Rattle.arrays.proofs.moving.open.Goals as goal

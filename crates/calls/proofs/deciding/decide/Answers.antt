@@ -1,7 +1,5 @@
-use Rattle.std.proofs.Common.{◌≡◌, length, None, sym, ap, ◌∙◌, subst, rules}
-use Rattle.rules.specs.Books.{ranked_by}
+use Rattle.std.proofs.Common.{◌≡◌, length, None, sym, ap, ◌∙◌, rules}
 use Rattle.rules.specs.Refusals.{first, phase_after}
-use Rattle.rules.specs.declared.calls.Call.TheVariants.{Enter}
 use Rattle.memory.specs.States.{book_of}
 use Rattle.calls.specs.Inputs.{inputs}
 use Rattle.calls.proofs.Refusing.{refused_phase, refused_follows, for_call, for_reply, entry_fine}

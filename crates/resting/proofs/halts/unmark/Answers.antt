@@ -1,8 +1,8 @@
-use Rattle.std.proofs.Common.{◌≡◌, ◌+◌, ◌<◌, ◌≤◌, length, get_or, set, sym, refl, ap, ◌∙◌, arith}
+use Rattle.std.proofs.Common.{length, get_or, set, ap, ◌∙◌, arith}
 use Rattle.rules.specs.Books.{nothing_at}
 use Rattle.levels.specs.Sides.{levels_of}
 use Rattle.resting.specs.Unmarked.{plain_level}
-use Rattle.resting.proofs.Mapping.{mapped, mapped_more, mapped_all, length_mapped}
+use Rattle.resting.proofs.Mapping.{mapped_more, mapped_all, length_mapped}
 use Rattle.resting.proofs.halts.unmark.Goals as goal
 
 pub unmark_level-requires : goal.unmark_level-requires

@@ -1,6 +1,6 @@
-use Rattle.std.proofs.Common.{◌≡◌, ◌<◌, false, List, length, get_or, set, sym, ap, ◌∙◌, arith}
+use Rattle.std.proofs.Common.{◌<◌, false, List, length, get_or, set, ap, ◌∙◌, arith}
 use Rattle.std.proofs.lemmas.List.{get_or_default}
-use Rattle.rules.specs.Books.{Level, part, level, queue, nothing_at}
+use Rattle.rules.specs.Books.{part, level, queue, nothing_at}
 use Rattle.rules.specs.declared.orders.Part.{Part}
 use Rattle.levels.specs.Limits.{WithinLimits}
 use Rattle.levels.specs.Sides.{levels_of}

@@ -1,6 +1,6 @@
-use Rattle.std.proofs.Common.{◌≡◌, ◌-◌, ◌<◌, ◌≤◌, length, get_or, take, set, sym, ap, ◌∙◌, arith}
-use Rattle.std.proofs.lemmas.List.{length-set, length-take}
-use Rattle.rules.specs.Books.{Level, nothing_at}
+use Rattle.std.proofs.Common.{length, get_or, set, ap, ◌∙◌, arith}
+use Rattle.std.proofs.lemmas.List.{length-set}
+use Rattle.rules.specs.Books.{nothing_at}
 use Rattle.levels.specs.Sides.{levels_of}
 use Rattle.resting.proofs.Off.{without_hidden, without_shown, off_both, twice}
 use Rattle.resting.proofs.offs.take_off.Goals as goal

@@ -1,14 +1,14 @@
-use Rattle.std.proofs.Common.{◌≡◌, ℕ, ◌+◌, ◌<◌, ◌≤◌, min, List, length, get_or, set, sym, refl, ap, ◌∙◌, arith}
+use Rattle.std.proofs.Common.{◌≡◌, min, List, length, get_or, sym, ap, ◌∙◌, arith}
 use Rattle.std.proofs.lemmas.List.{length-set, set-get_or}
 use Rattle.rules.specs.Books.{Level, nothing_at, ranked_by}
 use Rattle.rules.specs.Changes.{on_price}
-use Rattle.rules.specs.Quantities.{of_level, of_side}
+use Rattle.rules.specs.Quantities.{of_side}
 use Rattle.rules.specs.Reserve.{join_hidden, show_anew, hidden_of}
 use Rattle.rules.proofs.Levels.{on_price_of}
 use Rattle.levels.specs.Heads.{count}
 use Rattle.levels.specs.Sides.{levels_of}
 use Rattle.resting.specs.Earned.{earned}
-use Rattle.resting.specs.Replenished.{joined, replenished}
+use Rattle.resting.specs.Replenished.{joined}
 use Rattle.resting.proofs.Refilled.{level_of_side, length_on_price, count_set, join_few}
 use Rattle.resting.proofs.replenishing.replenish.Goals as goal
 

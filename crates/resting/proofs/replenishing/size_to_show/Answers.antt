@@ -1,4 +1,4 @@
-use Rattle.std.proofs.Common.{◌≡◌, ◌+◌, ◌-◌, ◌<◌, ◌≤◌, length, get_or, drop, sym, ap, ◌∙◌, arith}
+use Rattle.std.proofs.Common.{◌≡◌, ◌+◌, ◌-◌, get_or, drop, ap, ◌∙◌, arith}
 use Rattle.rules.specs.Books.{Level, nothing_at}
 use Rattle.rules.specs.Quantities.{of_order}
 use Rattle.rules.specs.Reserve.{hidden_of}

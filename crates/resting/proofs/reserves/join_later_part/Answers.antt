@@ -1,9 +1,9 @@
-use Rattle.std.proofs.Common.{◌≡◌, ℕ, ◌+◌, ◌<◌, ◌≤◌, true, false, ltb, List, length, get_or, set, sym, refl, ap, ◌∙◌, arith}
+use Rattle.std.proofs.Common.{◌≡◌, true, false, ltb, List, length, get_or, set, sym, ap, ◌∙◌, arith}
 use Rattle.std.proofs.lemmas.List.{length-set, get_or-set_same}
 use Rattle.std.proofs.lemmas.Bool.{lt-ltb, le-ltb}
 use Rattle.allocation.specs.Dealings.{sum}
 use Rattle.rules.specs.Lists.{last_alone}
-use Rattle.rules.specs.Books.{Level, level, queue, nothing_at}
+use Rattle.rules.specs.Books.{Level, level, nothing_at}
 use Rattle.rules.specs.Changes.{lose}
 use Rattle.rules.specs.Quantities.{pieces, of_order}
 use Rattle.rules.specs.Reserve.{shows_two, join_hidden}

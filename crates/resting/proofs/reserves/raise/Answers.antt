@@ -1,5 +1,5 @@
-use Rattle.std.proofs.Common.{◌≡◌, ◌+◌, ◌<◌, ◌≤◌, false, List, length, get_or, set, sym, refl, ap, ◌∙◌, arith}
-use Rattle.rules.specs.Books.{Level, part, level, queue, nothing_at}
+use Rattle.std.proofs.Common.{◌≡◌, ◌+◌, false, List, length, get_or, set, sym, ap, ◌∙◌, arith}
+use Rattle.rules.specs.Books.{part, level, queue, nothing_at}
 use Rattle.rules.specs.Quantities.{of_order}
 use Rattle.rules.specs.Reserve.{raised}
 use Rattle.rules.specs.declared.orders.Part.{Part}

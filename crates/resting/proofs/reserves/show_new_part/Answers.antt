@@ -1,14 +1,12 @@
-use Rattle.std.proofs.Common.{◌≡◌, ℕ, ◌+◌, ◌<◌, ◌≤◌, min, true, false, List, length, get_or, set, sym, refl, ap, ◌∙◌, arith}
-use Rattle.std.proofs.lemmas.List.{length-set, get_or-set_same, length-take}
-use Rattle.allocation.specs.ByTime.{shares_in_order}
-use Rattle.rules.specs.Books.{Level, part, level, queue, nothing_at}
-use Rattle.rules.specs.Changes.{lose, put}
-use Rattle.rules.specs.Quantities.{pieces, of_order}
+use Rattle.std.proofs.Common.{◌≡◌, min, length, get_or, set, sym, ap, ◌∙◌, arith}
+use Rattle.std.proofs.lemmas.List.{length-set}
+use Rattle.rules.specs.Books.{part, level, nothing_at}
+use Rattle.rules.specs.Changes.{put}
+use Rattle.rules.specs.Quantities.{of_order}
 use Rattle.rules.specs.Reserve.{show_anew}
-use Rattle.rules.specs.declared.orders.Part.{Part}
 use Rattle.levels.specs.Sides.{levels_of}
 use Rattle.resting.proofs.Off.{twice}
-use Rattle.resting.proofs.Low.{of_total, show_none, show_some, new_shown, less_hidden, same_level}
+use Rattle.resting.proofs.Low.{of_total, show_none, show_some, less_hidden, same_level}
 use Rattle.resting.proofs.reserves.show_new_part.Goals as goal
 
 pub returns-then-not-is_low : goal.returns-then-not-is_low

@@ -1,8 +1,8 @@
-use Rattle.std.proofs.Common.{◌≡◌, ◌+◌, ◌<◌, ◌≤◌, true, false, length, get_or, sym, refl, ap, ◌∙◌, arith}
+use Rattle.std.proofs.Common.{◌<◌, length, sym, ap, ◌∙◌, arith}
 use Rattle.rules.specs.Books.{nothing_at, ranked_by}
 use Rattle.levels.specs.Sides.{levels_of}
 use Rattle.trading.specs.Reached.{reached}
-use Rattle.trading.proofs.Touring.{tour_none, tour_ready, tour_room, tour_more, tour_past, tour_over, over_levels, over_quantity}
+use Rattle.trading.proofs.Touring.{tour_ready, tour_room, tour_more, tour_past, tour_over, over_levels, over_quantity}
 use Rattle.trading.proofs.prices.trade_side.Goals as goal
 use Rattle.trading.proofs.prices.trade_side.Goals.{then-has, else-has}
 

@@ -1,4 +1,4 @@
-use Rattle.std.proofs.Common.{◌-◌, length}
+use Rattle.std.proofs.Common.{◌-◌}
 use Rattle.rules.specs.Books.{ranked_by}
 use Rattle.levels.specs.Sides.{levels_of}
 use Rattle.trading.specs.Reached.{reached}

@@ -1,12 +1,11 @@
-use Rattle.std.proofs.Common.{◌≡◌, ℕ, ◌+◌, ◌-◌, ◌<◌, ◌≤◌, true, false, List, [], length, get_or, set, sym, refl, ap, ◌∙◌, arith}
+use Rattle.std.proofs.Common.{◌+◌, ◌-◌, length, set, sym, ap, ◌∙◌, arith}
 use Rattle.std.proofs.lemmas.List.{set-get_or, length-take}
 use Rattle.allocation.specs.Dealings.{Dealt, sum}
 use Rattle.rules.specs.Books.{nothing_at, queue}
 use Rattle.rules.specs.Changes.{lowered}
-use Rattle.rules.specs.Trading.{queue_of, with_queue, rows_of, step_shares, dealt}
-use Rattle.rules.specs.declared.answers.Row.{Row}
+use Rattle.rules.specs.Trading.{queue_of, with_queue, rows_of}
 use Rattle.levels.specs.Sides.{levels_of}
-use Rattle.trading.specs.Steps.{at_place, opens, step_rows}
+use Rattle.trading.specs.Steps.{at_place, opens}
 use Rattle.trading.specs.Written.{written}
 use Rattle.trading.proofs.Writing.{written_none}
 use Rattle.trading.proofs.Stepping.{no_quantity, no_claims, some_claims, idle_rest, idle_left, idle_rows, ready_seated}

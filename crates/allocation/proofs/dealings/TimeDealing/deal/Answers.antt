@@ -1,4 +1,4 @@
-use Rattle.std.proofs.Common.{◌≡◌, ℕ, ltb, List, map, sym, ap, ◌∙◌}
+use Rattle.std.proofs.Common.{ltb, map, sym, ap, ◌∙◌}
 use mathlib.Core.List.{map-map}
 use Rattle.allocation.specs.ByTime.{shares_in_order}
 use Rattle.allocation.specs.Wheels.{retain}

@@ -1,6 +1,5 @@
-use Rattle.std.proofs.Common.{◌≡◌, ◌+◌, ◌<◌, ◌≤◌, length, get_or, take, sym, refl, ap, ◌∙◌, arith, rules}
+use Rattle.std.proofs.Common.{◌≡◌, ◌+◌, length, get_or, sym, arith, rules}
 use Rattle.std.proofs.lemmas.Bool.{lt-ltb, eq-eqb, ne_eqb}
-use Rattle.allocation.specs.Wheels.{seats_of}
 use Rattle.allocation.specs.Counts.{seats_more, seats_front}
 use Rattle.allocation.proofs.wheels.Wheel.has_seat.Goals as goal
 

@@ -1,4 +1,4 @@
-use Rattle.std.proofs.Common.{◌≡◌, ℕ, ◌+◌, ◌-◌, ◌<◌, length, get_or, take, sym, refl, ap, ◌∙◌, subst, arith, rules}
+use Rattle.std.proofs.Common.{◌≡◌, ℕ, ◌+◌, ◌-◌, ◌<◌, length, get_or, take, sym, refl, ap, subst, arith, rules}
 use Rattle.allocation.specs.Wheels.{wheel_with}
 use Rattle.allocation.proofs.Arrays.{lost_front}
 use Rattle.allocation.proofs.Room.{OnceEach, dropped_seat}

@@ -1,4 +1,4 @@
-use Rattle.std.proofs.Common.{◌≡◌, ltb, ap, ◌∙◌}
+use Rattle.std.proofs.Common.{ltb, ap, ◌∙◌}
 use mathlib.Core.Path.{fun_ext}
 use Rattle.allocation.specs.Wheels.{retain}
 use Rattle.allocation.specs.Memory.{wheel_of}

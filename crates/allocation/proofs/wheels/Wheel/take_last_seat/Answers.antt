@@ -1,4 +1,4 @@
-use Rattle.std.proofs.Common.{◌≡◌, ℕ, ◌+◌, ◌<◌, List, length, take, set, sym, ap, subst, arith, rules}
+use Rattle.std.proofs.Common.{◌≡◌, ◌+◌, ◌<◌, length, take, set, sym, ap, subst, arith, rules}
 use Rattle.std.proofs.lemmas.List.{take_more_set, length-take-le}
 use Rattle.allocation.specs.Wheels.{wheel_with}
 use Rattle.allocation.proofs.Room.{OnceEach, room, last_seat}

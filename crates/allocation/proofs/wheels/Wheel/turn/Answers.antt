@@ -1,6 +1,5 @@
-use Rattle.std.proofs.Common.{◌≡◌, ◌+◌, ◌-◌, ◌≤◌, length, take, drop, sym, refl, ap, ◌∙◌, arith, rules}
+use Rattle.std.proofs.Common.{◌-◌, take, refl, ap, ◌∙◌, arith}
 use Rattle.std.proofs.lemmas.Bool.{lt-ltb, le-ltb}
-use Rattle.allocation.specs.Wheels.{wheel_with, first_served}
 use Rattle.allocation.specs.Memory.{wheel_of}
 use Rattle.allocation.proofs.Arrays.{served_lost, served_full, served_part}
 use Rattle.allocation.proofs.wheels.Wheel.turn.Goals as goal

@@ -1,9 +1,9 @@
-use Rattle.std.proofs.Common.{◌≡◌, ◌+◌, ◌<◌, ◌≤◌, true, false, List, length, get_or, take, drop, set, sym, refl, ap, ◌∙◌, arith, lit<}
+use Rattle.std.proofs.Common.{◌≡◌, ◌<◌, ◌≤◌, List, length, get_or, set, sym, refl, ap, ◌∙◌, arith, lit<}
 use Rattle.std.specs.List.{insert}
 use Rattle.std.proofs.lemmas.List.Edits.{length-insert}
 use Rattle.arrays.specs.Items.{items}
 use Rattle.rules.specs.Books.{Level, nothing_at, ranked_by}
-use Rattle.levels.specs.Heads.{size, span, levels, count}
+use Rattle.levels.specs.Heads.{span, levels}
 use Rattle.levels.specs.Sides.{levels_of}
 use Rattle.levels.proofs.Flat.{insert_level, span_inserted, count_levels}
 use Rattle.levels.proofs.Places.{on_found, on_made, first_within, good_same, same_total}

@@ -1,7 +1,7 @@
-use Rattle.std.proofs.Common.{◌≡◌, List, get_or, set, sym, refl, ap, ◌∙◌}
+use Rattle.std.proofs.Common.{List, get_or, set, ap, ◌∙◌}
 use Rattle.allocation.specs.Wheels as Wheels
 use Rattle.allocation.specs.Memory.{wheel_of}
-use Rattle.rules.specs.Books.{Level, queue, nothing_at}
+use Rattle.rules.specs.Books.{queue}
 use Rattle.rules.specs.Changes.{lowered, settle, lose}
 use Rattle.rules.specs.Trading.{queue_of, with_queue}
 use Rattle.rules.specs.declared.orders.Part.{Part}

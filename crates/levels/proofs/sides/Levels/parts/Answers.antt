@@ -1,8 +1,7 @@
-use Rattle.std.proofs.Common.{◌≡◌, ◌+◌, ◌<◌, ◌≤◌, List, length, get_or, take, drop, sym, refl, ap, ◌∙◌, subst, arith, lit<}
+use Rattle.std.proofs.Common.{◌≤◌, List, length, drop, sym, ap, ◌∙◌, subst, arith, lit<}
 use Rattle.std.specs.List.{AllByRecursion}
 use Rattle.std.proofs.lemmas.List.{length-take, length-drop}
 use Rattle.arrays.specs.Items.{items}
-use Rattle.rules.specs.Books.{Level}
 use Rattle.rules.specs.declared.orders.Part.{Part}
 use Rattle.levels.specs.Limits.{WithinLimits}
 use Rattle.levels.specs.Queues.{head_of}

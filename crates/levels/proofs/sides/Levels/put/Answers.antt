@@ -1,4 +1,4 @@
-use Rattle.std.proofs.Common.{◌≡◌, ℕ, ◌+◌, ◌<◌, ◌≤◌, true, List, [], ◌∷◌, ◌++◌, length, get_or, take, drop, set, sym, refl, ap, ◌∙◌, arith, lit<}
+use Rattle.std.proofs.Common.{◌≡◌, ◌+◌, ◌<◌, List, [], ◌∷◌, ◌++◌, length, get_or, take, drop, set, sym, ap, ◌∙◌, arith, lit<}
 use Rattle.std.proofs.ByRecursion.{All-push}
 use Rattle.std.proofs.lemmas.List.{length_push}
 use Rattle.allocation.specs.Wheels.{ensure_seat}
@@ -9,12 +9,11 @@ use Rattle.levels.specs.Limits.{WithinLimits, within_limits}
 use Rattle.levels.specs.Splices.{spliced}
 use Rattle.levels.specs.Heads.{span, levels}
 use Rattle.levels.specs.Queues.{head_of, with_head}
-use Rattle.levels.specs.declared.heads.QueueHead.{QueueHead}
 use Rattle.levels.proofs.Bounded.{limits_part, limits_spliced}
 use Rattle.levels.proofs.Flat.{queue_head}
 use Rattle.levels.proofs.Laws.{put_law, whole_law, length_here}
 use Rattle.levels.proofs.Stretches.{inserted_spliced}
-use Rattle.levels.proofs.Facts.{prices, bound, parts_are}
+use Rattle.levels.proofs.Facts.{prices, parts_are}
 use Rattle.levels.proofs.sides.Levels.put.Goals as goal
 
 pub at-requires : goal.at-requires
@@ -48,8 +47,8 @@ invariant_of-self c =
     let after : items c.insert.new.self ≡ spliced ps k (k + n) mid = c.insert.ensures ∙ inserted_spliced ps k n c.args.part in record {
       whole = ap span (c.edit.ensures q) ∙ whole_law t hs ps c.args.i k n q lt start many mid (n + 1) c.ensure_seat.new.self s.whole long ∙ ap length (sym after);
       limits =
-        ap within_limits after
-            ∙ limits_spliced ps k (k + n) mid s.limits (All-push WithinLimits old c.args.part (limits_part ps n k s.limits) (c.requires.known.1, c.requires.small));
+          ap within_limits after
+          ∙ limits_spliced ps k (k + n) mid s.limits (All-push WithinLimits old c.args.part (limits_part ps n k s.limits) (c.requires.known.1, c.requires.small));
     }
 
 pub returns : goal.returns

@@ -1,6 +1,5 @@
-use Rattle.std.proofs.Common.{◌≡◌, ◌+◌, ◌<◌, ◌≤◌, length, get_or, take, sym, refl, ap, ◌∙◌, arith, lit<}
+use Rattle.std.proofs.Common.{◌≡◌, ◌+◌, ◌≤◌, length, get_or, refl, ap, ◌∙◌, arith, lit<}
 use Rattle.arrays.specs.Items.{items}
-use Rattle.levels.specs.Heads.{span}
 use Rattle.levels.specs.Queues.{head_of, ahead}
 use Rattle.levels.specs.declared.heads.LevelHead.{LevelHead}
 use Rattle.levels.proofs.Laws.{within_parts}

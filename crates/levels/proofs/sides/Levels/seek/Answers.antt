@@ -1,7 +1,7 @@
-use Rattle.std.proofs.Common.{◌≡◌, ◌<◌, ◌≤◌, true, length, get_or, take, drop, sym, refl, ap, ◌∙◌, arith}
+use Rattle.std.proofs.Common.{◌≡◌, ◌<◌, length, sym, refl, ap, ◌∙◌, arith}
 use Rattle.std.proofs.lemmas.List.{at_drop_more, at_drop_all}
 use Rattle.arrays.specs.Items.{items}
-use Rattle.rules.specs.Books.{Level, nothing_at, good, ranked_by}
+use Rattle.rules.specs.Books.{nothing_at, good, ranked_by}
 use Rattle.levels.specs.Prices.{no_better}
 use Rattle.levels.specs.Sides.{levels_of}
 use Rattle.levels.proofs.Places.{skip_more, good_same, same_total}

@@ -1,4 +1,4 @@
-use Rattle.std.proofs.Common.{◌≡◌, ℕ, ◌+◌, ◌<◌, ◌≤◌, length, get_or, take, drop, set, sym, refl, ap, ◌∙◌, arith, lit<}
+use Rattle.std.proofs.Common.{◌≡◌, ℕ, ◌+◌, ◌<◌, length, get_or, take, set, sym, refl, ap, ◌∙◌, arith, lit<}
 use Rattle.std.proofs.ByRecursion.{All-set}
 use Rattle.std.proofs.lemmas.List.{length-set}
 use Rattle.arrays.specs.Items.{items}

@@ -1,6 +1,6 @@
-use Rattle.std.proofs.Common.{◌≡◌, ◌+◌, ◌<◌, ◌≤◌, length, take, sym, ap, ◌∙◌, arith}
+use Rattle.std.proofs.Common.{ap, arith}
 use Rattle.arrays.specs.Items.{items}
-use Rattle.levels.specs.Heads.{size, span}
+use Rattle.levels.specs.Heads.{size}
 use Rattle.levels.proofs.Flat.{span_more}
 use Rattle.levels.proofs.Facts.{bound, parts_of}
 use Rattle.levels.proofs.sides.Levels.start.Goals as goal

@@ -1,4 +1,4 @@
-use Rattle.std.proofs.Common.{◌≡◌, sym, refl, ap, ◌∙◌, arith}
+use Rattle.std.proofs.Common.{ap, ◌∙◌, arith}
 use Rattle.arrays.specs.Items.{items}
 use Rattle.levels.specs.Heads.{span, levels}
 use Rattle.levels.proofs.Flat.{tidy_levels, span_kept}

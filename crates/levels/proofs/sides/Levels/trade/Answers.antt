@@ -1,4 +1,4 @@
-use Rattle.std.proofs.Common.{◌≡◌, ℕ, ◌+◌, ◌<◌, ◌≤◌, List, length, get_or, take, drop, set, sym, refl, ap, ◌∙◌, arith, lit<}
+use Rattle.std.proofs.Common.{◌≡◌, ◌+◌, ◌<◌, List, length, get_or, take, drop, set, sym, ap, ◌∙◌, arith, lit<}
 use Rattle.arrays.specs.Items.{items}
 use Rattle.rules.specs.Books.{nothing_at}
 use Rattle.rules.specs.Changes.{lowered}
@@ -51,7 +51,7 @@ invariant_of-self c =
           ∙ whole_law t hs ps c.args.i k n q (omega (arith, c.requires.place, prices s)) (c.queue_start-start.ensures.start q) many mid f.result c.args.wheel s.whole f.ensures.count
           ∙ ap length (sym f.ensures.after);
       limits =
-        ap within_limits f.ensures.after ∙ limits_spliced ps k (k + n) mid s.limits (limits_lowered (take n (drop k ps)) c.args.shares.now (limits_part ps n k s.limits));
+          ap within_limits f.ensures.after ∙ limits_spliced ps k (k + n) mid s.limits (limits_lowered (take n (drop k ps)) c.args.shares.now (limits_part ps n k s.limits));
     }
 
 pub returns : goal.returns

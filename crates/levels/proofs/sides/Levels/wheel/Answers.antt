@@ -3,7 +3,7 @@ use Rattle.arrays.specs.Items.{items}
 use Rattle.allocation.specs.Memory.{wheel_of}
 use Rattle.levels.specs.Queues.{head_of}
 use Rattle.levels.proofs.Laws.{queue_here}
-use Rattle.levels.proofs.Facts.{prices, head_is}
+use Rattle.levels.proofs.Facts.{prices}
 use Rattle.levels.proofs.sides.Levels.wheel.Goals as goal
 
 pub at-requires : goal.at-requires

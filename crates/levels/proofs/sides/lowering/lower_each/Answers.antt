@@ -1,6 +1,5 @@
-use Rattle.std.proofs.Common.{◌≡◌, ◌+◌, ◌<◌, ◌≤◌, length, sym, refl, ap, ◌∙◌, arith, lit<}
+use Rattle.std.proofs.Common.{◌∙◌, arith, lit<}
 use Rattle.arrays.specs.Items.{items}
-use Rattle.arrays.proofs.Bounds.{length_items}
 use Rattle.levels.proofs.Lowering.{lowering_none, lowering_gone, lowering_kept, lowering_all, lowering_count}
 use Rattle.levels.proofs.sides.lowering.lower_each.Goals as goal
 use Rattle.levels.proofs.sides.lowering.lower_each.Goals.{then-x-p, else-x-p}

@@ -1,4 +1,4 @@
-use Rattle.std.proofs.Common.{◌≡◌, get_or, set, sym, ap, ◌∙◌, arith}
+use Rattle.std.proofs.Common.{set, ap, ◌∙◌, arith}
 use Rattle.arrays.proofs.Fronts.{set_front}
 use Rattle.orders.specs.Rows.{rows_of, less}
 use Rattle.orders.proofs.Fronted.{front_at, blank}

@@ -1,4 +1,4 @@
-use Rattle.std.proofs.Common.{◌≡◌, ◌^◌, ◌<◌, List, map, length, take, sym, ap, ◌∙◌, subst, map-id, arith}
+use Rattle.std.proofs.Common.{◌≡◌, ◌^◌, ◌<◌, List, length, take, sym, ap, ◌∙◌, subst, map-id, arith}
 use native.Mathlib.Nat.{sub-zero}
 use Rattle.std.proofs.lemmas.List.{take_at, length-take-le}
 use Rattle.allocation.specs.Dealings.{Dealt, Seated, interest, claims_left, total}

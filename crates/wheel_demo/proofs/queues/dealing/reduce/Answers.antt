@@ -1,4 +1,4 @@
-use Rattle.std.proofs.Common.{◌≡◌, [], ◌++◌, take, drop, sym, ap, ◌∙◌, arith}
+use Rattle.std.proofs.Common.{[], ◌++◌, take, drop, sym, ap, ◌∙◌, arith}
 use Rattle.std.proofs.lemmas.List.{take_all, at_drop_all, append-nil}
 use Rattle.allocation.specs.Dealings.{claims_left}
 use Rattle.wheel_demo.proofs.Reduced.{reduce_more}
