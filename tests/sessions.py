@@ -4,7 +4,7 @@
 
 A session is cut into stretches, each of which starts from the book that the matcher has there. A copy of the repository is made in
 a temporary folder, the stretches are added to its crate `rules` as theorems by computation (answers, rows and the whole book
-afterwards), and `rt dev rules` checks them there. Prints what was met.
+afterwards), and `rt check` checks them there. Prints what was met.
 """
 import collections
 import pathlib
@@ -135,7 +135,7 @@ def told_queue(book, key):
     parts = sorted((p for p in book.parts if (p["side"], p["price"], p["category"]) == key), key=lambda p: p["time"])
     wheel = book.wheels.get(key, {"seats": [], "used": 0})
     told = listed(f"part {p['order']} {p['participant']} {p['quantity']} {str(p['marked']).lower()}" for p in parts)
-    return f"(queue ({told}) (wheel-with ({listed(wheel['seats'])}) {wheel['used']}))"
+    return f"(queue ({told}) (wheel_with ({listed(wheel['seats'])}) {wheel['used']}))"
 
 
 def told_side(book, side):
@@ -151,34 +151,29 @@ def told_book(book):
 
 
 HEAD = """-- Random sessions. Assumes nothing.
-use mathlib.Core.Path.{_≡_}
-use mathlib.Core.Bool.{true, false}
-use mathlib.Core.List.{List, [], _∷_, map}
-use Prim.Native.Nat.{ℕ}
-use lib.Dec.{leb}
-use Rattle·allocation.specs.Wheels.{wheel-with}
-use Rattle·allocation.specs.Dealings.{parity, time}
-use Rattle·allocation.specs.Rankings.{buyers-letter, sellers-letter, higher-is-better, lower-is-better}
-use Rattle·rules·specs.declared.orders.Side.{Side}
-use Rattle·rules·specs.declared.orders.Side.the-variants.{Buy, Sell}
-use Rattle·rules·specs.declared.orders.Kind.{Kind}
-use Rattle·rules·specs.declared.orders.Kind.the-variants as Kind
-use Rattle·rules·specs.declared.orders.Order.{Order}
-use Rattle·rules·specs.declared.phases.Phase.the-variants as Phase
-use Rattle·rules·specs.declared.phases.Step.the-variants as Step
-use Rattle·rules·specs.declared.calls.Call.the-variants.{Open, Halt, Resume, Close, Quote, Enter, Cancel, Reduce}
-use Rattle·rules·specs.declared.answers.Answer.the-variants.{Accepted, Refused}
-use Rattle·rules·specs.declared.answers.Refusal.the-variants as Refusal
-use Rattle·rules·specs.declared.answers.Row.the-variants.{Trade, GivenBack}
-use Rattle·rules·specs.Books.{Ranking, ranked-by, Book, part, queue, level}
-use Rattle·rules·specs.Rules.{steps, new-book}
-use Rattle·rules·specs.Runs.{Ask, Event, run, final}
-use Rattle·rules·specs.Cases.{what-came}
+use Rattle.std.specs.Prelude.{◌≡◌, ℕ, true, false, List, [], ◌∷◌}
+use Rattle.allocation.specs.Wheels.{wheel_with}
+use Rattle.allocation.specs.Dealings.{parity, time}
+use Rattle.allocation.specs.Rankings.{buyers_letter, sellers_letter, higher_is_better, lower_is_better}
+use Rattle.rules.specs.declared.orders.Side.{Side}
+use Rattle.rules.specs.declared.orders.Side.TheVariants.{Buy, Sell}
+use Rattle.rules.specs.declared.orders.Kind.{Kind}
+use Rattle.rules.specs.declared.orders.Order.{Order}
+use Rattle.rules.specs.declared.phases.Phase.TheVariants as Phase
+use Rattle.rules.specs.declared.phases.Step.TheVariants as Step
+use Rattle.rules.specs.declared.calls.Call.TheVariants.{Open, Halt, Resume, Close, Quote, Enter, Cancel, Reduce}
+use Rattle.rules.specs.declared.answers.Answer.TheVariants.{Accepted, Refused}
+use Rattle.rules.specs.declared.answers.Refusal.TheVariants as Refusal
+use Rattle.rules.specs.declared.answers.Row.TheVariants.{Trade, GivenBack}
+use Rattle.rules.specs.Books.{Ranking, ranked_by, Book, part, queue, level}
+use Rattle.rules.specs.Rules.{steps, new_book}
+use Rattle.rules.specs.Runs.{Event, run, final}
+use Rattle.rules.specs.Cases.{what_came}
 
 abbrev order : Side → Kind → ℕ → ℕ → ℕ → ℕ → ℕ → Order
 order s k n p q d v = record { number = n; participant = p; side = s; kind = k; quantity = q; display = d; price = v }
 """
-RANKINGS = {"B": "(ranked-by buyers-letter higher-is-better)", "S": "(ranked-by sellers-letter lower-is-better)"}
+RANKINGS = {"B": "(ranked_by buyers_letter higher_is_better)", "S": "(ranked_by sellers_letter lower_is_better)"}
 STRETCH = 12
 
 
@@ -189,32 +184,32 @@ def main(first, last, calls):
     unfolding = next(l for l in full if l.startswith("unfolding "))
     for seed in range(first, last):
         lot, letter, dealing, asks = session(seed, calls)
-        book, start = Book(lot, dealing), f"new-book {lot}"
+        book, start = Book(lot, dealing), f"new_book {lot}"
         for cut in range(0, len(asks), STRETCH):
-            name, some = f"{seed}-{cut // STRETCH}", asks[cut:cut + STRETCH]
+            name, some = f"{seed}_{cut // STRETCH}", asks[cut:cut + STRETCH]
             answers = [book.call(call, room) for room, call in some]
             for number, _, _, rs in answers:
                 met[number] += 1
                 rows += len(rs)
             met["most orders"] = max(met["most orders"], len(book.orders))
-            specs += f"\nabbrev start-{name} : Book\nstart-{name} = {start}\n"
-            specs += f"\nabbrev past-{name} : List Event\npast-{name} = run {RANKINGS[letter]} {dealing} start-{name}\n    (" + "\n    ∷ ".join(told_call(*a) for a in some) + "\n    ∷ [])\n"
+            specs += f"\nabbrev start_{name} : Book\nstart_{name} = {start}\n"
+            specs += f"\nabbrev past_{name} : List Event\npast_{name} = run {RANKINGS[letter]} {dealing} start_{name}\n    (" + "\n    ∷ ".join(told_call(*a) for a in some) + "\n    ∷ [])\n"
             start = told_book(book)
-            specs += f"\nabbrev pub Stretch-{name} : Type 0\nStretch-{name} =\n    (what-came past-{name} ≡ (" + "\n    ∷ ".join(map(told_answer, answers)) + "\n    ∷ []))\n"
-            specs += f"    × (final start-{name} past-{name} ≡ {start})\n"
-            proofs += f"\npub stretch-{name} : Stretch-{name}\n{unfolding}\nstretch-{name} = (refl, refl)\n"
-            stretches.append(f"Stretch-{name}")
-    proofs = "-- Random sessions come out. Assumes nothing.\n" + "\n".join(uses) + f"\nuse Rattle·rules·specs.Random.{{{', '.join(stretches)}}}\n" + proofs
+            specs += f"\nabbrev pub Stretch_{name} : Type 0\nStretch_{name} =\n    (what_came past_{name} ≡ (" + "\n    ∷ ".join(map(told_answer, answers)) + "\n    ∷ []))\n"
+            specs += f"    × (final start_{name} past_{name} ≡ {start})\n"
+            proofs += f"\npub stretch_{name} : Stretch_{name}\n{unfolding}\nstretch_{name} = (refl, refl)\n"
+            stretches.append(f"Stretch_{name}")
+    proofs = "-- Random sessions come out. Assumes nothing.\n" + "\n".join(uses) + f"\nuse Rattle.rules.specs.Random.{{{', '.join(stretches)}}}\n" + proofs
     with tempfile.TemporaryDirectory() as folder:
         copy = pathlib.Path(folder) / "repository"
-        shutil.copytree(ROOT, copy, ignore=shutil.ignore_patterns(".git"))
+        shutil.copytree(ROOT, copy, ignore=shutil.ignore_patterns(".git", "out", "must-fail"))
         crate = copy / "crates/rules"
         (crate / "specs/Random.antt").write_text(specs)
         (crate / "proofs/Random.antt").write_text(proofs)
         for part in ("specs", "proofs"):
             with open(crate / part / "Lib.antt", "a") as lib:
                 lib.write("pub mod Random\n")
-        done = subprocess.run(["rt", "dev", "rules"], cwd=copy, capture_output=True, text=True)
+        done = subprocess.run(["rt", "check"], cwd=crate, capture_output=True, text=True)
     told = [l for l in (done.stdout + done.stderr).split("\n") if "error" in l or l.startswith("logic=")]
     print("\n".join(l[:400] for l in told[:12]))
     print(f"sessions {last - first}, stretches {len(stretches)}, rows {rows}, answers met {dict(sorted(met.items(), key=lambda x: str(x[0])))}")
