@@ -1,4 +1,4 @@
--- What time-shares gives. Assumes nothing.
+-- What time_shares gives. Assumes nothing.
 use Rattle.std.specs.Prelude.{◌≡◌, ℕ, ◌+◌, ◌-◌, ◌*◌, ◌≤◌, min, Bool, true, false, cond, ltb, List, [], ◌∷◌, map, ◌==◌, nat_lt, refl}
 use Rattle.std.proofs.Common.{ap, ⊎_elim, arith, one-mul, mul-zero}
 use Rattle.std.specs.List.{AllByRecursion}

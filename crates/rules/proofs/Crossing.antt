@@ -225,7 +225,7 @@ module _ (rank : Ranking) (O : TotalOrder rank.good) (s : Side) where
             let c = ih q in
             record { groups = c.groups; chain = c.chain; same_rows = c.same_rows; all_reached = c.all_reached; among = λ v k. c.among v k.1; ordered = c.ordered }
 
--- ## Sound-level tables
+-- ## Good tables of steps
 
 weak_count : (s : Step) (ss : List Step) → count s ss ≡ 0 → has_step s ss ≡ false
 weak_count s [] h = refl

@@ -72,7 +72,7 @@ hit_under m n (x ∷ xs) (p ∷ ps) h = let ih = hit_under m n xs ps h.1 in let 
 pub lowered_pieces : (m n : ℕ) (ps : List Part) (xs : List ℕ) → Under xs (pieces n ps) → of_order m ps ≡ of_order m (lowered ps xs) + cond (eqb n m) (sum xs) 0
 lowered_pieces m n ps xs h = omega (arith, lowered_of m ps xs (under_at_most n xs ps h), hit_under m n xs ps h)
 
--- ## Sound-queue queues
+-- ## Sound queues
 
 pub positive_lowered : (ps : List Part) (xs : List ℕ) → AllByRecursion (λ p. 0 < p.quantity) ps → AllByRecursion (λ p. 0 < p.quantity) (lowered ps xs)
 positive_lowered [] xs h = tt

@@ -1,6 +1,6 @@
 use Rattle.std.proofs.Common.{◌≡◌, min, length, get_or, set, sym, ap, ◌∙◌, arith}
 use Rattle.std.proofs.lemmas.List.{length-set}
-use Rattle.rules.specs.Books.{part, level, nothing_at}
+use Rattle.rules.specs.Books.{Level, part, level, nothing_at}
 use Rattle.rules.specs.Changes.{put}
 use Rattle.rules.specs.Quantities.{of_order}
 use Rattle.rules.specs.Reserve.{show_anew}
@@ -19,10 +19,8 @@ of_order-requires c = omega (arith, of_total c.args.order.number c.parts.result.
 
 pub off_hidden-requires : goal.off_hidden-requires
 off_hidden-requires c =
-    let ls = levels_of c.args.levels.now in
-    let l = get_or ls c.args.i (nothing_at 0) in
     record {
-      place = omega (arith, c.requires.place, ap length (c.put.ensures (nothing_at 0)), length-set ls c.args.i (level l.price (put (part c.args.order.number c.args.order.participant c.min-n.result c.args.mark) l.shown) l.hidden));
+      place = omega (arith, c.requires.place, ap length (c.put.ensures (nothing_at 0)), length-set {A = Level});
       room = c.requires.room;
     }
 
