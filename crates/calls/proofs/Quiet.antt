@@ -1,7 +1,6 @@
 -- Calls that trade nothing and give nothing back: what the rule makes of a sound book.
-use Rattle.std.proofs.Common.{◌≡◌, ℕ, ◌+◌, ◌<◌, ◌≤◌, Bool, true, false, not, ◌&&◌, ◌||◌, ltb, List, [], ◌∷◌, map, length, Some, None, filter, sym, refl, ap, ◌∙◌, subst}
+use Rattle.std.proofs.Common.{◌≡◌, ℕ, ◌+◌, ◌<◌, ◌≤◌, true, false, not, ◌&&◌, ◌||◌, List, [], ◌∷◌, map, length, Some, None, sym, refl, ap, ◌∙◌, subst}
 use Rattle.std.specs.List.{AllByRecursion}
-use Rattle.std.proofs.lemmas.Bool.{lt-ltb}
 use Rattle.std.proofs.ByRecursion.{All-weaker}
 use Rattle.allocation.specs.Dealings.{Deal}
 use Rattle.rules.specs.declared.orders.Order.{Order}
@@ -23,23 +22,10 @@ use Rattle.trading.specs.Written.{written}
 use Rattle.trading.proofs.Writing.{written_none}
 use Rattle.orders.specs.Rows.{rows_of}
 use Rattle.orders.specs.declared.tables.Resting.{Resting}
+use Rattle.giving_back.proofs.Still.{tidy_still}
 use Rattle.memory.specs.States.{book_of, Tallied, Stands}
 use Rattle.memory.specs.Following.{Follows, replied}
 use Rattle.memory.specs.declared.states.State.{State}
-
--- ## Tidying a book that is tidy
-
-kept_all : {X : Type 0} (t : X → Bool) (xs : List X) → AllByRecursion (λ x. t x ≡ true) xs → filter t xs ≡ xs
-kept_all t [] h = refl
-kept_all t (x ∷ xs) h = let ih = kept_all t xs h.1 in rw h.0 (ap (λ l. x ∷ l) ih)
-
-pub tidy_still : (b : Book) → AllByRecursion (λ l. holds l ≡ true) b.buys → AllByRecursion (λ l. holds l ≡ true) b.sells → AllByRecursion (λ e. 0 < resting e.number b) b.orders → tidy b ≡ b
-unfolding tidy
-tidy_still b bs ss rests =
-    let o = kept_all (λ e. ltb 0 (resting e.number b)) b.orders (All-weaker (λ e. 0 < resting e.number b) (λ e. ltb 0 (resting e.number b) ≡ true) (λ e h. lt-ltb 0 (resting e.number b) h) b.orders rests) in
-    let l = kept_all holds b.buys bs in
-    let r = kept_all holds b.sells ss in
-    λ i. record { lot = b.lot; steps = b.steps; phase = b.phase; last = b.last; bid = b.bid; offer = b.offer; orders = o i; buys = l i; sells = r i }
 
 -- ## An accepted call without rows
 

@@ -1,12 +1,13 @@
 -- The room that trading leaves for what is left of an order. Assumes nothing.
-use Rattle.std.proofs.Common.{◌≡◌, ℕ, ◌+◌, ◌*◌, ◌<◌, ◌≤◌, min, Bool, true, false, cond, not, ◌&&◌, eqb, leb, List, [], ◌∷◌, length, fold, sym, refl, ap, ◌∙◌, subst, arith}
+use Rattle.std.proofs.Common.{◌≡◌, ◌+◌, ◌*◌, ◌<◌, ◌≤◌, min, Bool, true, false, cond, ◌&&◌, eqb, leb, List, [], ◌∷◌, length, fold, sym, refl, ap, ◌∙◌, subst, arith}
 use mathlib.Core.Bool.{false≢true}
 use Rattle.std.specs.List.{AllByRecursion}
 use Rattle.std.proofs.lemmas.List.{length-map}
-use Rattle.std.proofs.lemmas.Bool.{leb-true, leb-false, not-false, and_parts}
+use Rattle.std.proofs.lemmas.Bool.{leb-false}
 use Rattle.std.proofs.ByRecursion.{All-weaker}
 use Rattle.allocation.specs.Rankings.{TotalOrder}
 use Rattle.allocation.specs.Dealings.{Deal, Lawful}
+use Rattle.rules.proofs.Smallness.{in_range}
 use Rattle.rules.specs.declared.orders.Side.{Side}
 use Rattle.rules.specs.declared.orders.Side.TheVariants.{Buy, Sell}
 use Rattle.rules.specs.declared.orders.Order.{Order}
@@ -15,7 +16,7 @@ use Rattle.rules.specs.Changes.{on_price}
 use Rattle.rules.specs.Marks.{earns_mark}
 use Rattle.rules.specs.Trading.{Traded, trade_side, in_reach}
 use Rattle.rules.specs.Reserve.{on, join_hidden, show_anew, hidden_of, replenish_order, replenish, is_reserve}
-use Rattle.rules.specs.Refusals.{rests, within}
+use Rattle.rules.specs.Refusals.{rests}
 use Rattle.rules.specs.Entering.{trade, arrived}
 use Rattle.rules.specs.Invariants.{SoundBook, SoundLevel, Admitted, numbers}
 use Rattle.rules.specs.Sizes.{parts_on, Small}
@@ -132,8 +133,8 @@ module _ (rank : Ranking) (O : TotalOrder rank.good) (deal : Deal) (D : Lawful d
         let r : Traded Book = trade rank deal e (arrived e b) in
         let T : AfterTrade b.lot e b r = after_trading rank deal D b.lot e b (sound_fit rank b s) in
         record {
-          known = ((bounds 1 24 e.participant a.participant).0, (let h = (bounds 1 24 e.participant a.participant).1 in omega (arith, h)));
-          small = (bounds 1 500000 e.quantity a.quantity).1;
+          known = ((in_range 1 24 e.participant a.participant).0, (let h = (in_range 1 24 e.participant a.participant).1 in omega (arith, h)));
+          small = (in_range 1 500000 e.quantity a.quantity).1;
           left = (T.even 0).less;
           unlisted = subst (λ os. AllByRecursion (λ o. eqb e.number o.number ≡ false) os) (sym T.same.orders) (rising_below b.last e.number b.orders s.rising a.new);
           absent = omega (arith, (T.even e.number).rest, (sound_fit rank b s).fresh e.number a.new);
@@ -142,11 +143,6 @@ module _ (rank : Ranking) (O : TotalOrder rank.good) (deal : Deal) (D : Lawful d
           prices = λ k. (let h = room k in omega (arith, h, levels_left e.side));
         }
       where
-        bounds : (low high n : ℕ) → not (within low high n) ≡ false → (low ≤ n) × (n ≤ high)
-        bounds low high n h =
-            let w = and_parts (leb low n) (leb n high) (not-false (within low high n) h) in
-            (leb-true low n w.0, leb-true n high w.1)
-
         room : rests e.kind ≡ true → length b.orders < 128
         room k = leb-false 128 (length b.orders) (go (leb 128 (length b.orders)) a.room)
           where

@@ -12,7 +12,7 @@ ghost use Rattle.matching.specs.Meeting.{met};
 use allocation::{Dealing, Ranking};
 use memory::State;
 use rules::{Kind, Order, Row, Side};
-use trading::{Progress, Reach, Terms, trade_side};
+use trading::{Progress, Reach, Terms, trade_best_first};
 
 /// The opposite side.
 fn opposite(side: Side) -> Side
@@ -77,7 +77,7 @@ pub(crate) fn trade_opposite<K: Ranking, D: Dealing>(
         rows: 0,
     };
     match order.side {
-        Side::Buy => trade_side::<K, D>(
+        Side::Buy => trade_best_first::<K, D>(
             &mut state.sells,
             reach,
             &state.steps,
@@ -87,7 +87,7 @@ pub(crate) fn trade_opposite<K: Ranking, D: Dealing>(
             report,
             &mut state.shares,
         ),
-        Side::Sell => trade_side::<K, D>(
+        Side::Sell => trade_best_first::<K, D>(
             &mut state.buys,
             reach,
             &state.steps,

@@ -1,5 +1,5 @@
 -- What replenishing keeps. Assumes nothing.
-use Rattle.std.proofs.Common.{◌≡◌, ℕ, zero, suc, ◌+◌, ◌-◌, ◌<◌, ◌≤◌, Bool, true, false, cond, ◌&&◌, eqb, leb, List, [], ◌∷◌, length, get_or, set, refl, ap, arith}
+use Rattle.std.proofs.Common.{◌≡◌, ℕ, zero, suc, ◌+◌, ◌-◌, ◌<◌, ◌≤◌, Bool, true, false, cond, ◌&&◌, eqb, leb, List, [], ◌∷◌, length, get_or, refl, ap, arith}
 use Rattle.allocation.specs.Dealings.{sum}
 use Rattle.rules.specs.declared.orders.Side.{Side}
 use Rattle.rules.specs.declared.orders.Part.{Part}
@@ -30,10 +30,16 @@ length_on_price rank s v f (l ∷ ls) = go (eqb l.price v) (good rank s v l.pric
 abbrev parts_in : Level → ℕ
 parts_in l = length l.shown.parts + length l.hidden.parts
 
-pub count_set : (ls : List Level) (i : ℕ) (d x : Level) → i < length ls → parts_in x ≤ parts_in (get_or ls i d) → count (set ls i x) ≤ count ls
-count_set [] i d x lt le = absurd (omega arith)
-count_set (l ∷ ls) zero d x lt le = omega arith
-count_set (l ∷ ls) (suc i) d x lt le = omega (arith, count_set ls i d x (omega arith) le)
+-- a change that adds no part to a level adds none to a side
+pub count_on_price : (rank : Ranking) (s : Side) (v : ℕ) (f : Level → Level) → ((l : Level) → parts_in (f l) ≤ parts_in l) → (ls : List Level) → count (on_price rank s v f ls) ≤ count ls
+unfolding on_price
+count_on_price rank s v f few [] = omega (arith, few (nothing_at v))
+count_on_price rank s v f few (l ∷ ls) = go (eqb l.price v) (good rank s v l.price) (count_on_price rank s v f few ls)
+  where
+    go : (t u : Bool) → count (on_price rank s v f ls) ≤ count ls → count (cond t (f l ∷ ls) (cond u (f (nothing_at v) ∷ l ∷ ls) (l ∷ on_price rank s v f ls))) ≤ parts_in l + count ls
+    go true u h = omega (arith, few l)
+    go false true h = omega (arith, few (nothing_at v))
+    go false false h = omega arith
 
 length_lowered : (ps : List Part) (xs : List ℕ) → length (lowered ps xs) ≤ length ps
 length_lowered [] xs = omega arith

@@ -5,10 +5,10 @@ ghost use Rattle.rules.specs.Quantities.{of_order as shares_of, of_side};
 ghost use Rattle.rules.specs.Reserve.{hidden_of};
 ghost use Rattle.levels.specs.Heads.{count};
 ghost use Rattle.levels.specs.Sides.{levels_of};
-ghost use Rattle.resting.specs.Replenished.{replenished};
+ghost use Rattle.resting.specs.Replenished.{replenished, RoomToShow};
 
 use crate::marks::earns_mark;
-use crate::reserves::{join_later_part, show_new_part};
+use crate::reserves::{is_low, join_later_part, show_new_part};
 use allocation::Ranking;
 use amounts::of_order;
 use levels::Levels;
@@ -34,7 +34,29 @@ pub(crate) fn size_to_show(levels: &Levels, order: u32, display: u32) -> u32
 }
 
 /// A reserve order that runs low is replenished: a later part of two joins the hidden part, then a new part is shown.
-/// The mark of the new part is judged after the later part has joined. `room` is for the amounts.
+/// The mark of the new part is judged after the later part has joined. Room for one more part is asked only where the order
+/// runs low. `room` is for the amounts.
+pub fn renew<K: Ranking>(levels: &mut Levels, order: Order, lot: u32, away: u32, room: &mut [u32])
+    requires prices { length (levels_of levels.old) < 385 }
+    requires known { (0 < order.participant) × (order.participant < 25) }
+    requires display { order.display ≤ 500000 }
+    requires small { of_side order.number (levels_of levels.old) ≤ 500000 }
+    requires parts { RoomToShow (ranked_by K.Ranking.initial K.Ranking.good) lot order (levels_of levels.old) }
+    requires room { 384 ≤ length room.old }
+    ensures { levels_of levels.new ≡ replenished (ranked_by K.Ranking.initial K.Ranking.good) lot away order (levels_of levels.old) }
+{
+    let i = levels.find_or_make::<K>(order.side, order.price);
+    if !is_low(levels, i, lot, order.number) {
+        return;
+    }
+    join_later_part(levels, i, lot, order.number, room);
+    let n = size_to_show(levels, order.number, order.display);
+    let mark = earns_mark::<K>(levels, order.side, order.price, n, lot, away);
+    show_new_part(levels, i, lot, order, mark, room);
+}
+
+/// A reserve order that runs low is replenished: a later part of two joins the hidden part, then a new part is shown.
+/// Room for one more part is asked in every case. `room` is for the amounts.
 pub fn replenish<K: Ranking>(
     levels: &mut Levels,
     order: Order,
@@ -50,10 +72,5 @@ pub fn replenish<K: Ranking>(
     requires room { 384 ≤ length room.old }
     ensures { levels_of levels.new ≡ replenished (ranked_by K.Ranking.initial K.Ranking.good) lot away order (levels_of levels.old) }
 {
-    let i = levels.find_or_make::<K>(order.side, order.price);
-    join_later_part(levels, i, lot, order.number, room);
-    let n = size_to_show(levels, order.number, order.display);
-    let mark = earns_mark::<K>(levels, order.side, order.price, n, lot, away);
-    let k = levels.find_or_make::<K>(order.side, order.price);
-    show_new_part(levels, k, lot, order, mark, room);
+    renew::<K>(levels, order, lot, away, room);
 }

@@ -74,16 +74,9 @@ idle_rows deal lot arriving q t l e = ap (λ (x : Dealt). rows_of t arriving l.p
 
 -- ## A step leaves a level ready
 
-pub ready_good : (lot : ℕ) (l : Level) → SoundLevel lot l → SoundLevel lot l
-ready_good lot l r = (record { positive = r.0.positive; seated = r.0.seated }, record { positive = r.1.positive; seated = r.1.seated })
-
-pub good_ready : (lot : ℕ) (l : Level) → SoundLevel lot l → SoundLevel lot l
-good_ready lot l g = (record { positive = g.0.positive; seated = g.0.seated }, record { positive = g.1.positive; seated = g.1.seated })
-
 pub ready_step : (deal : Deal) → Lawful deal → (lot q : ℕ) (t : Step) (l : Level) → SoundLevel lot l → SoundLevel lot (step_rest deal lot q t l)
 ready_step deal D lot q t l r =
-    let g = ready_good lot l r in
-    good_ready lot (step_rest deal lot q t l) (with_good lot t (queue (lowered (queue_of t l).parts (step_shares deal lot q t l).shares) (step_shares deal lot q t l).wheel) l (fair_shares deal D lot q t l g).sound g)
+    with_good lot t (queue (lowered (queue_of t l).parts (step_shares deal lot q t l).shares) (step_shares deal lot q t l).wheel) l (fair_shares deal D lot q t l r).sound r
 
 pub ready_seated : (lot : ℕ) (t : Step) (l : Level) → SoundLevel lot l → SoundQueue lot (queue_of t l)
 ready_seated lot Setter l r = r.0

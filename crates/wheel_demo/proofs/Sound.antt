@@ -1,9 +1,8 @@
 -- What the ghost fields of a queue say, and that it stays so. Assumes nothing.
-use Rattle.std.proofs.Common.{◌≡◌, ℕ, ◌<◌, ◌≤◌, min, true, [], ◌∷◌, ◌++◌, filter, sym, refl, ◌∙◌, subst, arith}
+use Rattle.std.proofs.Common.{◌≡◌, ℕ, true, [], ◌∷◌, ◌++◌, filter, sym, refl, ◌∙◌, subst, arith}
 use mathlib.Core.Path.{fun_ext}
 use Rattle.std.proofs.ByRecursion.{all_kept_by, All-push}
 use Rattle.std.proofs.lemmas.Bool.{eq-eqb, ne_eqb}
-use Rattle.allocation.specs.Wheels.{seats_of}
 use Rattle.allocation.specs.Dealings.{Dealt, Seated, WellDealt, interest, claims_left}
 use Rattle.allocation.specs.declared.claims.Claim.{Claim}
 use Rattle.allocation.specs.Seating.{seated_ensure, seated_leave}
@@ -21,17 +20,6 @@ pub record Sound (lot : ℕ) (s : Standing) : Type 0 where
 
 pub sound_queue : {D : Type 0} {d : Ghosts D} (q : Queue D d) → Sound q.lot (standing q)
 sound_queue q = record { admitted = q.admitted; seated = record { once = q.once; below = q.below; empty = q.empty } }
-
--- back to the fields, one by one
-pub record Fields (lot : ℕ) (s : Standing) (n : ℕ) : Type 0 where
-  pub fits : n ≤ 64
-  pub admitted : Admitted s.claims
-  pub once : (p : ℕ) → seats_of p s.wheel.seats ≡ min 1 (interest p s.claims)
-  pub below : s.wheel.used < lot
-  pub empty : s.wheel.seats ≡ [] → s.wheel.used ≡ 0
-
-pub sound_fields : (lot : ℕ) (s : Standing) (n : ℕ) → n ≤ 64 → Sound lot s → Fields lot s n
-sound_fields lot s n fits h = record { fits = fits; admitted = h.admitted; once = h.seated.once; below = h.seated.below; empty = h.seated.empty }
 
 pub sound_joined : (lot : ℕ) (s t : Standing) (c : Claim) → Sound lot s → admissible c ≡ true → t ≡ joined s c → Sound lot t
 sound_joined lot s t c h ok is =

@@ -3,7 +3,7 @@ use Rattle.allocation.specs.Memory.{wheel_of}
 use Rattle.wheel_demo.specs.Queues.{Standing, joined}
 use Rattle.wheel_demo.specs.Memory.{standing}
 use Rattle.wheel_demo.proofs.Interests.{bounds, taken_claim}
-use Rattle.wheel_demo.proofs.Sound.{sound_queue, sound_fields, sound_joined}
+use Rattle.wheel_demo.proofs.Sound.{sound_queue, sound_joined}
 use Rattle.wheel_demo.proofs.queues.Queue.add.Goals as goal
 
 pub ensure_seat-requires : goal.ensure_seat-requires
@@ -22,5 +22,5 @@ invariant_of-self g c =
     let ok = taken_claim x s.len c.takes.result c.takes.ensures.taken c.if-not-takes.false in
     let after : Standing = record { claims = take (s.len + 1) c.put.new.claims; wheel = wheel_of c.ensure_seat.new.self } in
     let e : after ≡ joined (standing s) x = λ i. record { claims = c.put.ensures i; wheel = c.ensure_seat.ensures i } in
-    let f = sound_fields s.lot after (s.len + 1) (omega (arith, ok.1)) (sound_joined s.lot (standing s) after x (sound_queue s) ok.0 e) in
-    record { fits = f.fits; admitted = f.admitted; once = f.once; below = f.below; empty = f.empty }
+    let h = sound_joined s.lot (standing s) after x (sound_queue s) ok.0 e in
+    record { fits = omega (arith, ok.1); admitted = h.admitted; once = h.seated.once; below = h.seated.below; empty = h.seated.empty }

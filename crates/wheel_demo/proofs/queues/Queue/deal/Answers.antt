@@ -3,7 +3,7 @@ use Rattle.allocation.specs.Dealings.{Dealt, claims_left}
 use Rattle.allocation.specs.Memory.{wheel_of}
 use Rattle.wheel_demo.specs.Queues.{Standing, served, unfilled}
 use Rattle.wheel_demo.specs.Memory.{standing}
-use Rattle.wheel_demo.proofs.Sound.{sound_queue, sound_fields, sound_served}
+use Rattle.wheel_demo.proofs.Sound.{sound_queue, sound_served}
 use Rattle.wheel_demo.proofs.queues.Queue.deal.Goals as goal
 
 pub invariant_of-self : goal.invariant_of-self
@@ -19,5 +19,5 @@ invariant_of-self g c =
     let e : after ≡ served (standing s) d = λ i. record { claims = left i; wheel = f.ensures.wheel i } in
     let was = sound_queue s in
     let well = g.met.D.Dealing.lawful q (wheel_of s.wheel) s.lot cs was.seated in
-    let h = sound_fields s.lot after k.result (omega (arith, k.ensures.count, s.fits)) (sound_served q s.lot (standing s) after d was well e) in
-    record { fits = h.fits; admitted = h.admitted; once = h.once; below = h.below; empty = h.empty }
+    let h = sound_served q s.lot (standing s) after d was well e in
+    record { fits = omega (arith, k.ensures.count, s.fits); admitted = h.admitted; once = h.seated.once; below = h.seated.below; empty = h.seated.empty }

@@ -13,7 +13,7 @@ use Rattle.resting.specs.Replenished.{joined}
 use Rattle.resting.proofs.Refilled.{level_of_side}
 use Rattle.resting.proofs.Renewed.{any_at, replenished_at, replenished_not, low_joined}
 use Rattle.resting.proofs.Off.{twice}
-use Rattle.resting.proofs.renewing.renew.Goals as goal
+use Rattle.resting.proofs.replenishing.renew.Goals as goal
 
 pub join_later_part-requires : goal.join_later_part-requires
 join_later_part-requires g c =
