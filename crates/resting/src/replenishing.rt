@@ -23,7 +23,7 @@ fn hidden_at(levels: &Levels, i: usize, order: u32) -> u32
 }
 
 /// The lesser of a display quantity and what an order hides on the side.
-pub(crate) fn size_to_show(levels: &Levels, order: u32, display: u32) -> u32
+fn size_to_show(levels: &Levels, order: u32, display: u32) -> u32
     ensures { result ≡ min display (hidden_of order (levels_of levels.now)) }
 {
     let mut left = display;
