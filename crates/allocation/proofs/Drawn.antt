@@ -1,8 +1,7 @@
 -- One claim more by time, over allotments in a list. Assumes nothing.
-use Rattle.std.proofs.Common.{◌≡◌, ℕ, ◌+◌, ◌-◌, ◌<◌, min, cond, eqb, List, [], ◌∷◌, ◌++◌, map, length, get_or, take, drop, set, sym, refl, ap, ◌∙◌, ⊎_elim, arith}
+use Rattle.std.proofs.Common.{◌≡◌, ℕ, ◌+◌, ◌-◌, ◌<◌, min, cond, eqb, List, [], ◌∷◌, ◌++◌, map, length, get_or, take, drop, set, sym, refl, ap, ◌∙◌, ⊎_elim}
 use mathlib.Core.Path.{fun_ext}
 use Rattle.std.specs.List.{AllByRecursion}
-use Rattle.std.proofs.ByRecursion.{All-get_or}
 use Rattle.std.proofs.lemmas.List.{append_assoc, take_more_set, drop_more, get_or-set_same, get_or-set_other}
 use Rattle.std.proofs.lemmas.Bool.{cases_eq, eq-eqb, ne_eqb}
 use Rattle.allocation.specs.ByTime.{less, time_shares}
@@ -14,11 +13,6 @@ amounts_less table k n h j =
     (λ e. rw (eq-eqb j k e, e) (get_or-set_same table k (get_or table k 0 - n) 0 h))
     (λ ne. rw (ne_eqb j k ne) (get_or-set_other table k j (get_or table k 0 - n) 0 ne))
     (cases_eq j k)
-
--- the allotment of the claim that is read is there
-pub group_there : {X : Type 0} (draws : X → ℕ × ℕ) (cs : List X) (i : ℕ) (c : X) (k m : ℕ) → AllByRecursion (λ x. (draws x).0 < m) cs → i < length cs → c ≡ get_or cs i c → k ≡ (draws c).0 → k < m
-group_there draws cs i c k m all in-cs at ek =
-    omega (arith, All-get_or (λ x. (draws x).0 < m) cs i c in-cs all, ek, ap (λ x. (draws x).0) at)
 
 more_at : {X : Type 0} (draws : X → ℕ × ℕ) (cs : List X) (i : ℕ) (c : X) (table table' shares : List ℕ) (x : ℕ) → i < length cs → i < length shares → c ≡ get_or cs i c → (draws c).0 < length table → x ≡ min (get_or table (draws c).0 0) (draws c).1 → table' ≡ set table (draws c).0 (get_or table (draws c).0 0 - (draws c).1) → take (i + 1) (set shares i x) ++ time_shares (amounts table') (map draws (drop (i + 1) cs)) ≡ take i shares ++ time_shares (amounts table) (map draws (drop i cs))
 more_at draws cs i c table table' shares x in-cs in-shares at kl ex eh =

@@ -3,7 +3,6 @@ pub mod Leading
 pub mod TurnRuns
 pub mod Drawn
 pub mod InOrder
-pub mod Arrays
 pub mod Tables
 pub mod Stages
 pub mod Steps

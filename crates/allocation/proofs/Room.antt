@@ -1,11 +1,20 @@
 -- There is always room on the wheel for one who has no seat. Assumes nothing.
-use Rattle.std.proofs.Common.{◌≡◌, ℕ, zero, suc, ◌+◌, ◌<◌, ◌≤◌, Bool, cond, eqb, List, [], ◌∷◌, ◌++◌, length, take, drop, filter, sym, refl, ap, subst, ⊎_elim, arith}
-use Rattle.std.specs.List.{AllByRecursion}
-use Rattle.std.proofs.lemmas.Bool.{cases_eq, eq-eqb, ne_eqb, cond-true, cond-false, cond_both}
+use Rattle.std.proofs.Common.{◌≡◌, ℕ, zero, suc, ◌+◌, ◌<◌, ◌≤◌, Bool, true, false, cond, ◌||◌, eqb, ltb, List, [], ◌∷◌, ◌++◌, length, take, drop, filter, sym, refl, ap, subst, ⊎_elim, arith}
+use Rattle.std.specs.List.{AllByRecursion, list_any}
+use Rattle.std.proofs.lemmas.Bool.{cases_eq, eq-eqb, ne_eqb, cond-true, cond-false, cond_both, lt-ltb}
 use Rattle.std.proofs.lemmas.List.{take-append-drop}
 use Rattle.allocation.specs.Wheels.{seats_of}
-use Rattle.allocation.specs.Counts.{seats_append}
+use Rattle.allocation.specs.Counts.{eqb_swap, seats_append}
 use Rattle.allocation.specs.Seating.{seats_kept}
+
+-- whether p is among the seats
+pub list_any-seats : (p : ℕ) (xs : List ℕ) → list_any (λ x. eqb x p) xs ≡ ltb 0 (seats_of p xs)
+list_any-seats p [] = refl
+list_any-seats p (x ∷ xs) = rw (list_any-seats p xs, eqb_swap x p) (go (eqb p x) (seats_of p xs))
+  where
+    go : (b : Bool) (n : ℕ) → (b || ltb 0 n) ≡ ltb 0 (cond b 1 0 + n)
+    go true n = sym (lt-ltb 0 (1 + n) (omega arith))
+    go false n = ap (ltb 0) (omega arith)
 
 -- what the type of a wheel says of its seats: participants from 1 to 24, each with one at most
 pub record OnceEach (seats : List ℕ) : Type 0 where

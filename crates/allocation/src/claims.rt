@@ -5,7 +5,7 @@ ghost use Rattle.allocation.specs.ByTime.{time_shares, shares_in_order};
 ghost use Rattle.allocation.specs.declared.claims.Claim.{Claim};
 
 /// A claim: who claims, and how many shares.
-#[derive(Clone, Copy)]
+#[derive(Clone, Copy, Debug, PartialEq, Eq)]
 pub struct Claim {
     pub participant: u8,
     pub size: u32,
@@ -27,36 +27,6 @@ impl Claimed for Claim {
     }
 }
 
-/// Which claims draw on one allotment.
-pub(crate) trait Grouping {
-    ghost group: { Claim → ℕ };
-
-    fn group(claim: Claim) -> usize
-        ensures { result ≡ group claim };
-}
-
-/// All claims draw on one allotment.
-pub(crate) struct Together;
-
-/// Each participant's claims draw on an allotment of its own.
-pub(crate) struct ByParticipant;
-
-impl Grouping for Together {
-    ghost group = { λ _. 0 };
-
-    fn group(_claim: Claim) -> usize {
-        0
-    }
-}
-
-impl Grouping for ByParticipant {
-    ghost group = { λ c. c.participant };
-
-    fn group(claim: Claim) -> usize {
-        claim.participant as usize
-    }
-}
-
 /// Takes what it can of `size` from the allotment at `k`.
 pub(crate) fn draw(allotted: &mut [u32], k: usize, size: u32) -> u32
     requires { k < length allotted.old }
@@ -69,18 +39,21 @@ pub(crate) fn draw(allotted: &mut [u32], k: usize, size: u32) -> u32
 }
 
 /// Each claim in order takes what it can of what is allotted to its group.
-pub(crate) fn by_time<G: Grouping, C: Claimed>(
+pub(crate) fn by_time<C: Claimed, F: Fn(Claim) -> usize>(
     claims: &[C],
     allotted: &mut [u32],
     shares: &mut [u32],
+    group: F,
 )
     requires one_each { length shares.old ≡ length claims.now }
-    requires groups_there { AllByRecursion (λ c. G.group (C.claim c) < length allotted.old) claims.now }
-    ensures { shares.new ≡ time_shares (λ k. slice_index allotted.old k) (map (λ c. (G.group (C.claim c), (C.claim c).size)) claims.now) }
+    requires callable { F.IsAlwaysCallable group }
+    requires groups_there { AllByRecursion (λ c. (k : ℕ) → F.post group (C.claim c) k → k < length allotted.old) claims.now }
+    ensures { (g : Claim → ℕ) → ((c : Claim) (k : ℕ) → F.post group c k → k ≡ g c) → shares.new ≡ time_shares (λ k. slice_index allotted.old k) (map (λ c. (g (C.claim c), (C.claim c).size)) claims.now) }
 {
-    for i in 0..claims.len() {
-        let claim = claims[i].claim();
-        shares[i] = draw(allotted, G::group(claim), claim.size);
+    // Shares are written by index: after an adapter of `iter_mut` a proof knows only how many there are.
+    for (i, item) in claims.iter().enumerate() {
+        let claim = item.claim();
+        shares[i] = draw(allotted, group(claim), claim.size);
     }
 }
 
@@ -89,6 +62,5 @@ pub fn in_order<C: Claimed>(quantity: u32, claims: &[C], shares: &mut [u32])
     requires { length shares.old ≡ length claims.now }
     ensures { shares.new ≡ shares_in_order quantity (map (λ c. (C.claim c).size) claims.now) }
 {
-    let mut allotted = [quantity];
-    by_time::<Together, C>(claims, &mut allotted, shares);
+    by_time(claims, &mut [quantity], shares, |_| 0);
 }

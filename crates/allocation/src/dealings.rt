@@ -7,7 +7,7 @@ ghost use Rattle.allocation.specs.Shares.{time_lawful};
 ghost use Rattle.allocation.specs.Turning.{parity_lawful};
 
 use super::{Claimed, Wheel, in_order};
-use crate::claims::{ByParticipant, by_time};
+use crate::claims::by_time;
 use crate::turns::{interests_left, take_turns};
 
 /// How a quantity is dealt to claims, on a wheel that seats exactly the claimants.
@@ -15,6 +15,7 @@ pub trait Dealing {
     /// The shares and the wheel afterwards, as a function of quantity, wheel, round lot and claims.
     ghost meaning: { Deal };
 
+    // Claims and shares are slices that the caller lends; a type that ties them, or that holds `known` and `fits`, would ask more of it.
     /// Writes a share for each claim, and turns the wheel.
     fn deal<C: Claimed>(
         &self,
@@ -75,8 +76,13 @@ impl Dealing for Parity {
         claims: &[C],
         shares: &mut [u32],
     ) {
-        let mut interests = interests_left(claims, &[]);
-        let mut taken = take_turns(wheel, lot, &mut interests, quantity);
-        by_time::<ByParticipant, C>(claims, &mut taken, shares);
+        let interests = interests_left(claims, &[]);
+        let mut taken = take_turns(wheel, lot, &interests, quantity);
+        by_time(
+            claims,
+            &mut taken,
+            shares,
+            |claim| claim.participant as usize,
+        );
     }
 }

@@ -5,18 +5,25 @@ ghost use Rattle.std.proofs.Common.{rules};
 
 /// A total order on prices, and the letter of the side that it is for.
 pub trait Ranking {
+    // A letter and no `Side`: this crate stands below the rule book, which has the sides.
     /// B for buyers, S for sellers.
     const LETTER: char;
 
     /// Whether the first price is at least as good as the second.
     ghost good: { ℕ → ℕ → Bool };
 
-    /// The letter as a number, since no clause can name the constant.
+    /// The constant, as clauses name it.
+    ghost LETTER: { ℕ };
+
+    /// The letter.
     ghost initial: { ℕ };
 
     /// The letter.
     fn initial() -> char
-        ensures { result ≡ initial };
+        ensures { result ≡ initial }
+    {
+        Self::LETTER
+    }
 
     /// Whether `a` is at least as good as `b`.
     fn at_least(a: u32, b: u32) -> bool
@@ -30,6 +37,9 @@ pub trait Ranking {
     }
 
     ghost ordered: { TotalOrder good };
+
+    /// The letter is the constant.
+    ghost told: { LETTER ≡ initial };
 
     ghost lettered: { (initial ≡ buyers_letter) ⊎ (initial ≡ sellers_letter) };
 }
@@ -47,15 +57,15 @@ impl Ranking for Buyers {
 
     ghost good = { higher_is_better };
 
+    ghost LETTER = { buyers_letter };
+
     ghost initial = { buyers_letter };
 
     ghost ordered = { Prim.search rules };
 
-    ghost lettered = { Prim.search rules };
+    ghost told = { Prim.search rules };
 
-    fn initial() -> char {
-        Self::LETTER
-    }
+    ghost lettered = { Prim.search rules };
 
     fn at_least(a: u32, b: u32) -> bool {
         b <= a
@@ -67,15 +77,15 @@ impl Ranking for Sellers {
 
     ghost good = { lower_is_better };
 
+    ghost LETTER = { sellers_letter };
+
     ghost initial = { sellers_letter };
 
     ghost ordered = { Prim.search rules };
 
-    ghost lettered = { Prim.search rules };
+    ghost told = { Prim.search rules };
 
-    fn initial() -> char {
-        Self::LETTER
-    }
+    ghost lettered = { Prim.search rules };
 
     fn at_least(a: u32, b: u32) -> bool {
         a <= b

@@ -1,6 +1,9 @@
 //! The parity wheel's memory: seats from the pointer onward, and how much of its lot the first seat has used.
-ghost use Rattle.std.specs.Prelude.{◌≡◌, ℕ, ◌<◌, ◌≤◌, take};
+ghost use Rattle.std.specs.Prelude.{◌≡◌, ℕ, ◌<◌, ◌≤◌, []};
+ghost use Rattle.arrays.specs.Items.{items};
 ghost use Rattle.allocation.specs.Wheels.{seats_of};
+
+use arrays::ArrayVec;
 
 mod filtering;
 mod seating;
@@ -13,11 +16,9 @@ pub(crate) const SEATS: usize = 24;
 /// A wheel without seats has used 0.
 #[derive(Clone, Copy)]
 pub struct Wheel {
-    seats: [u8; SEATS],
-    len: usize,
+    seats: ArrayVec<u8, SEATS>,
     used: u32,
-    ghost fits: { len ≤ 24 },
-    ghost once: { (k : ℕ) → seats_of k (take len seats) ≤ 1 },
-    ghost empty: { len ≡ 0 → used ≡ 0 },
-    ghost known: { (k : ℕ) → 0 < seats_of k (take len seats) → (0 < k) × (k < 25) },
+    ghost once: { (k : ℕ) → seats_of k (items seats) ≤ 1 },
+    ghost empty: { items seats ≡ [] → used ≡ 0 },
+    ghost known: { (k : ℕ) → 0 < seats_of k (items seats) → (0 < k) × (k < 25) },
 }

@@ -1,20 +1,11 @@
 //! Items change in place, come and go.
-ghost use Rattle.std.specs.Prelude.{◌≡◌, ◌<◌, ◌≤◌, ◌++◌, length, take, drop, slice_index_or, slice_set};
+ghost use Rattle.std.specs.Prelude.{◌≡◌, ◌+◌, ◌<◌, ◌≤◌, [], ◌∷◌, ◌++◌, length, take, drop, slice_index_or, slice_set};
+ghost use Rattle.std.specs.Fn.{FnOnceTakesAtMut, FnOnceReturnsAtMut};
 ghost use Rattle.std.specs.List.{insert};
 ghost use Rattle.arrays.specs.Items.{items};
 
 use super::ArrayVec;
-use crate::moving::{close, open};
-
-/// A change of one item where it stands.
-pub trait Edit<T> {
-    /// The item afterwards.
-    ghost edited: { Self → T → T };
-
-    /// Changes the item.
-    fn edit(&self, item: &mut T)
-        ensures { item.new ≡ edited self.now item.old };
-}
+use crate::moving::close;
 
 impl<T: Copy, const N: usize> ArrayVec<T, N> {
     /// Puts `x` in the place of the item at `i`.
@@ -26,11 +17,21 @@ impl<T: Copy, const N: usize> ArrayVec<T, N> {
     }
 
     /// Changes the item at `i` where it stands.
-    pub fn edit<E: Edit<T>>(&mut self, i: usize, how: &E)
-        requires { i < length (items self.old) }
-        ensures { (d : T) → items self.new ≡ slice_set (items self.old) i (E.edited how.now (slice_index_or (items self.old) i d)) }
+    pub fn edit<F: FnOnce(&mut T)>(&mut self, i: usize, how: F)
+        requires place { i < length (items self.old) }
+        requires takes { (d : T) → FnOnceTakesAtMut F.FnOnce how (slice_index_or (items self.old) i d) }
+        ensures { (d : T) → (y : T) × FnOnceReturnsAtMut F.FnOnce how (slice_index_or (items self.old) i d) tt y × (items self.new ≡ slice_set (items self.old) i y) }
     {
-        how.edit(&mut self.items[i]);
+        how(&mut self.items[i]);
+    }
+
+    /// Puts `x` behind the last item.
+    pub fn push(&mut self, x: T)
+        requires { length (items self.old) < N }
+        ensures { items self.new ≡ items self.old ++ x ∷ [] }
+    {
+        self.items[self.len] = x;
+        self.len += 1;
     }
 
     /// Puts `x` at `i`, and moves what stands from there on one up.
@@ -40,8 +41,18 @@ impl<T: Copy, const N: usize> ArrayVec<T, N> {
         ensures { items self.new ≡ insert (items self.old) i x }
     {
         let n = self.len;
-        open(&mut self.items, i, n, x);
+        self.items[n] = x;
+        let all = &mut self.items[..];
+        all[i..n + 1].rotate_right(1);
         self.len = n + 1;
+    }
+
+    /// Removes the item at `i`.
+    pub fn remove(&mut self, i: usize)
+        requires { i < length (items self.old) }
+        ensures { items self.new ≡ take i (items self.old) ++ drop (i + 1) (items self.old) }
+    {
+        self.remove_range(i, i + 1);
     }
 
     /// Removes the items from `i` to before `j`.
@@ -63,5 +74,22 @@ impl<T: Copy, const N: usize> ArrayVec<T, N> {
         ensures { items self.new ≡ take n (items self.old) }
     {
         self.len = n;
+    }
+
+    /// Removes every item.
+    pub fn clear(&mut self)
+        ensures { items self.new ≡ [] }
+    {
+        self.truncate(0);
+    }
+
+    /// The first `mid` items go behind the others.
+    pub fn rotate_left(&mut self, mid: usize)
+        requires { mid ≤ length (items self.old) }
+        ensures { items self.new ≡ drop mid (items self.old) ++ take mid (items self.old) }
+    {
+        let n = self.len;
+        let all = &mut self.items[..];
+        all[0..n].rotate_left(mid);
     }
 }

@@ -4,14 +4,16 @@
 ghost use Rattle.std.specs.Prelude.{◌≡◌, ◌≤◌, ⊤, length};
 
 mod changing;
+mod filtering;
 mod moving;
 mod reading;
 
-pub use changing::Edit;
 pub use moving::close;
 use std::alloc::AllocError;
 
+// The wheel must be Copy, and the kit's own ArrayVec is not; one list for all is plainer than two.
 /// At most `N` items, in the front of an array.
+#[derive(Copy)]
 pub struct ArrayVec<T, const N: usize> {
     items: [T; N],
     len: usize,
@@ -19,6 +21,7 @@ pub struct ArrayVec<T, const N: usize> {
     ghost long: { length items ≡ N },
 }
 
+// Not derived: a derived clone promises only what T's clone does, and not that it equals its source.
 impl<T: Copy, const N: usize> Clone for ArrayVec<T, N> {
     ghost is_clone = { λ x y. y ≡ x };
 
@@ -28,5 +31,3 @@ impl<T: Copy, const N: usize> Clone for ArrayVec<T, N> {
         Ok(*self)
     }
 }
-
-impl<T: Copy, const N: usize> Copy for ArrayVec<T, N> {}

@@ -1,11 +1,13 @@
 -- What participants have in claims that come and go, and which claims stand. Assumes nothing.
-use Rattle.std.proofs.Common.{◌≡◌, ℕ, ◌+◌, ◌-◌, ◌*◌, ◌<◌, ◌≤◌, Bool, true, false, cond, ◌&&◌, eqb, ltb, leb, List, [], ◌∷◌, ◌++◌, length, filter, sym, refl, ◌∙◌, arith}
+use Rattle.std.proofs.Common.{◌≡◌, ℕ, ◌+◌, ◌-◌, ◌*◌, ◌<◌, ◌≤◌, Bool, true, false, cond, ◌&&◌, eqb, leb, Ok, Err, is_ok, List, [], ◌∷◌, ◌++◌, length, filter, sym, refl, ◌∙◌, arith}
 use Rattle.std.specs.List.{AllByRecursion}
 use Rattle.std.proofs.ByRecursion.{all_kept_by, All-get_or, All-from_get_or}
 use Rattle.std.proofs.lemmas.Bool.{and_parts, and_from, leb-true, le-leb, ltb-true, ltb-false, eqb-true, ne_eqb, not-true, not-false, cond_both}
 use Rattle.allocation.specs.Dealings.{interest, claims_left, total}
 use Rattle.allocation.specs.declared.claims.Claim.{Claim}
 use Rattle.wheel_demo.specs.Admitted.{admissible, Admitted}
+use Rattle.wheel_demo.specs.Answers.{admitted}
+use Rattle.wheel_demo.specs.declared.queues.refusing.Refused.TheVariants.{Participant, Size}
 use Rattle.wheel_demo.specs.Queues.{unfilled, not_of}
 use Rattle.wheel_demo.proofs.Reduced.{none}
 
@@ -34,11 +36,14 @@ from_bounds c b =
     (and_from (leb 1 c.participant) (leb c.participant 24) (le-leb 1 c.participant b.named) (le-leb c.participant 24 (omega (arith, b.known))))
     (and_from (leb 1 c.size) (leb c.size 500000) (le-leb 1 c.size b.some) (le-leb c.size 500000 b.most))
 
--- what it says that a claim is taken
-pub taken_claim : (c : Claim) (n : ℕ) (r : Bool) → r ≡ (ltb n 64 && admissible c) → r ≡ true → (admissible c ≡ true) × (n < 64)
-taken_claim c n r is so =
-    let both = and_parts (ltb n 64) (admissible c) (sym is ∙ so) in
-    (both.1, ltb-true n 64 both.0)
+-- a claim is taken where it is admissible
+pub is_ok-admitted : (c : Claim) → is_ok (admitted c) ≡ admissible c
+is_ok-admitted c = go (leb 1 c.participant && leb c.participant 24) (leb 1 c.size && leb c.size 500000)
+  where
+    go : (a b : Bool) → is_ok {T = Unit {0}} (cond a (cond b (Ok (tt {0})) (Err Size)) (Err Participant)) ≡ (a && b)
+    go true true = refl
+    go true false = refl
+    go false b = refl
 
 -- every claim of a list is admissible
 abbrev pub EachAdmissible : List Claim → Type 0

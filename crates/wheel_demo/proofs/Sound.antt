@@ -19,7 +19,7 @@ pub record Sound (lot : ℕ) (s : Standing) : Type 0 where
   pub seated : Seated lot s.wheel (λ p. interest p s.claims)
 
 pub sound_queue : {D : Type 0} {d : Ghosts D} (q : Queue D d) → Sound q.lot (standing q)
-sound_queue q = record { admitted = q.admitted; seated = record { once = q.once; below = q.below; empty = q.empty } }
+sound_queue q = record { admitted = q.admitted; seated = q.seated }
 
 pub sound_joined : (lot : ℕ) (s t : Standing) (c : Claim) → Sound lot s → admissible c ≡ true → t ≡ joined s c → Sound lot t
 sound_joined lot s t c h ok is =

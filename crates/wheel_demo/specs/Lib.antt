@@ -1,3 +1,4 @@
 pub mod Admitted
 pub mod Queues
+pub mod Answers
 pub mod Memory

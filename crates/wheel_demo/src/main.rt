@@ -7,7 +7,6 @@ mod queues;
 mod report;
 
 use allocation::{Claim, Dealing, Parity, Time};
-use anyhow::anyhow;
 use queues::Queue;
 use report::{add, deal, leave};
 
@@ -37,9 +36,7 @@ fn open<D: Dealing + Drop>(
     dealing: D,
     claims: &[Claim],
 ) -> anyhow::Result<Queue<D>> {
-    let Some(mut queue) = Queue::new(dealing, LOT) else {
-        return Err(anyhow!("a round lot is from 1 to 1,000"));
-    };
+    let mut queue = Queue::new(dealing, LOT)?;
     for c in claims {
         add(rt, &mut queue, *c)?;
     }

@@ -1,16 +1,19 @@
 //! A queue's memory: the claims of one side, price and category in time order, with their wheel.
-ghost use Rattle.std.specs.Prelude.{◌≡◌, ℕ, ◌<◌, ◌≤◌, min, [], take};
-ghost use Rattle.allocation.specs.Wheels.{seats_of};
-ghost use Rattle.allocation.specs.Dealings.{interest};
+ghost use Rattle.arrays.specs.Items.{items};
+ghost use Rattle.allocation.specs.Dealings.{Seated, interest};
 ghost use Rattle.allocation.specs.Memory.{wheel_of};
 ghost use Rattle.wheel_demo.specs.Admitted.{Admitted};
 
 use allocation::{Claim, Dealing, Wheel};
+use arrays::ArrayVec;
 
 mod dealing;
-mod filtering;
 mod joining;
+mod leaving;
 mod looking;
+mod refusing;
+
+pub use refusing::Refused;
 
 /// As many claims as a queue holds.
 pub const ROOM: usize = 64;
@@ -22,11 +25,7 @@ pub struct Queue<D: Dealing> {
     dealing: D,
     lot: u32,
     wheel: Wheel,
-    claims: [Claim; ROOM],
-    len: usize,
-    ghost fits: { len ≤ 64 },
-    ghost admitted: { Admitted (take len claims) },
-    ghost once: { (p : ℕ) → seats_of p (wheel_of wheel).seats ≡ min 1 (interest p (take len claims)) },
-    ghost below: { (wheel_of wheel).used < lot },
-    ghost empty: { (wheel_of wheel).seats ≡ [] → (wheel_of wheel).used ≡ 0 },
+    claims: ArrayVec<Claim, ROOM>,
+    ghost admitted: { Admitted (items claims) },
+    ghost seated: { Seated lot (wheel_of wheel) (λ p. interest p (items claims)) },
 }

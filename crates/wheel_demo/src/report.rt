@@ -1,16 +1,21 @@
 //! Steps on a queue, each printed with what comes of it.
 use crate::queues::Queue;
 use allocation::{Claim, Dealing, Wheel};
+use std::fmt;
 
-/// Prints the seats from the pointer onward, how much of its lot the first has used, and who is next.
-fn show_wheel(rt: &HostRuntime, wheel: &Wheel) -> anyhow::Result<()> {
-    let seats = wheel.seats();
-    let used = wheel.used();
-    match seats.first() {
-        Some(next) => println!(rt; "    seats {seats:?}, used {used}; {next} is next")?,
-        None => println!(rt; "    no seats, used {used}; nobody is next")?,
+/// A wheel as it is printed: the seats from the pointer onward, how much of its lot the first has used, and who is next.
+#[derive(Clone, Copy)]
+struct Shown(Wheel);
+
+impl fmt::Display for Shown {
+    fn fmt<W: fmt::Write>(&self, f: &mut fmt::Formatter<W>) -> fmt::Result {
+        let seats = self.0.seats();
+        let used = self.0.used();
+        match seats.first() {
+            Some(next) => write!(f, "    seats {seats:?}, used {used}; {next} is next"),
+            None => write!(f, "    no seats, used {used}; nobody is next"),
+        }
     }
-    Ok(())
 }
 
 /// Adds a claim, and prints whether it stands.
@@ -19,14 +24,13 @@ pub(crate) fn add<D: Dealing>(
     queue: &mut Queue<D>,
     claim: Claim,
 ) -> anyhow::Result<()> {
-    let participant = claim.participant;
-    let size = claim.size;
-    if queue.add(claim) {
-        println!(rt; "  Participant {participant} claims {size}.")?;
-    } else {
-        println!(rt; "  Participant {participant} claims {size}: refused.")?;
+    let Claim { participant, size } = claim;
+    match queue.add(claim) {
+        Ok(()) => println!(rt; "  Participant {participant} claims {size}.")?,
+        Err(_) => println!(rt; "  Participant {participant} claims {size}: refused.")?,
     }
-    show_wheel(rt, &queue.wheel())
+    println!(rt; "{}", Shown(queue.wheel()))?;
+    Ok(())
 }
 
 /// Deals a quantity, and prints each claim with its size before and its share.
@@ -37,17 +41,17 @@ pub(crate) fn deal<D: Dealing>(
 ) -> anyhow::Result<()> {
     let claims = queue.claims().to_vec(rt.alloc())?;
     let mut shares = vec![in rt.alloc(); 0; claims.len()]?;
-    if !queue.deal(quantity, &mut shares) {
+    if queue.deal(quantity, &mut shares).is_err() {
         println!(rt; "  Deal {quantity}: refused.")?;
         return Ok(());
     }
     println!(rt; "  Deal {quantity}.")?;
     for (claim, share) in claims.iter().zip(&shares) {
-        let participant = claim.participant;
-        let size = claim.size;
+        let Claim { participant, size } = *claim;
         println!(rt; "    participant {participant} claims {size}, gets {share}")?;
     }
-    show_wheel(rt, &queue.wheel())
+    println!(rt; "{}", Shown(queue.wheel()))?;
+    Ok(())
 }
 
 /// Lets a participant leave.
@@ -58,5 +62,6 @@ pub(crate) fn leave<D: Dealing>(
 ) -> anyhow::Result<()> {
     queue.leave(participant);
     println!(rt; "  Participant {participant} gives up its claims.")?;
-    show_wheel(rt, &queue.wheel())
+    println!(rt; "{}", Shown(queue.wheel()))?;
+    Ok(())
 }

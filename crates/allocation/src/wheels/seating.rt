@@ -3,7 +3,8 @@ ghost use Rattle.std.specs.Prelude.{◌≡◌, ◌<◌, ◌≤◌, [], length, n
 ghost use Rattle.allocation.specs.Wheels.{wheel_with, seats_of, no_seat, take_last_seat, ensure_seat};
 ghost use Rattle.allocation.specs.Memory.{wheel_of};
 
-use super::{SEATS, Wheel};
+use super::Wheel;
+use arrays::ArrayVec;
 
 impl Wheel {
     /// A wheel without seats.
@@ -11,8 +12,7 @@ impl Wheel {
         ensures { wheel_of result ≡ wheel_with [] 0 }
     {
         Wheel {
-            seats: [0; SEATS],
-            len: 0,
+            seats: ArrayVec::new(0),
             used: 0,
         }
     }
@@ -21,7 +21,7 @@ impl Wheel {
     pub(crate) fn is_empty(&self) -> bool
         ensures { result ≡ no_seat (wheel_of self.now).seats }
     {
-        self.len == 0
+        self.seats.is_empty()
     }
 
     /// The seats from the pointer onward.
@@ -29,7 +29,7 @@ impl Wheel {
         ensures seats { result.now ≡ (wheel_of self.now).seats }
         ensures most { length result.now ≤ 24 }
     {
-        &self.seats[0..self.len]
+        self.seats.as_slice()
     }
 
     /// How much of its lot the first seat has used.
@@ -43,12 +43,7 @@ impl Wheel {
     pub(crate) fn has_seat(&self, participant: u8) -> bool
         ensures { result ≡ nat_lt 0 (seats_of participant (wheel_of self.now).seats) }
     {
-        for i in 0..self.len {
-            if self.seats[i] == participant {
-                return true;
-            }
-        }
-        false
+        self.seats().contains(&participant)
     }
 
     /// `participant`, who has no seat, takes the last one.
@@ -57,8 +52,7 @@ impl Wheel {
         requires away { seats_of participant (wheel_of self.old).seats ≡ 0 }
         ensures { wheel_of self.new ≡ take_last_seat (wheel_of self.old) participant }
     {
-        self.seats[self.len] = participant;
-        self.len += 1;
+        self.seats.push(participant);
     }
 
     /// `participant` takes the last seat unless it has a seat.
@@ -69,5 +63,14 @@ impl Wheel {
         if !self.has_seat(participant) {
             self.take_last_seat(participant);
         }
+    }
+}
+
+// Written and not derived, so that the contract says which value it is.
+impl Default for Wheel {
+    ghost is_default = { λ w. wheel_of w ≡ wheel_with [] 0 };
+
+    fn default() -> Self {
+        Wheel::new()
     }
 }

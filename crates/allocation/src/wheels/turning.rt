@@ -6,12 +6,13 @@ ghost use Rattle.allocation.specs.Memory.{wheel_of};
 use super::Wheel;
 
 impl Wheel {
+    // A seat is asked for here and below, since a wheel may have none.
     /// Who has the first seat.
     pub(crate) fn first_seat(&self) -> u8
         requires { 0 < length (wheel_of self.now).seats }
         ensures { result ≡ first_seat (wheel_of self.now).seats }
     {
-        self.seats[0]
+        self.seats.get(0)
     }
 
     /// The first seat goes last.
@@ -19,8 +20,7 @@ impl Wheel {
         requires { 0 < length (wheel_of self.old).seats }
         ensures { wheel_of self.new ≡ wheel_with (drop 1 (wheel_of self.old).seats ++ take 1 (wheel_of self.old).seats) 0 }
     {
-        let n = self.len;
-        self.seats[0..n].rotate_left(1);
+        self.seats.rotate_left(1);
         self.used = 0;
     }
 
@@ -29,9 +29,7 @@ impl Wheel {
         requires { 0 < length (wheel_of self.old).seats }
         ensures { wheel_of self.new ≡ wheel_with (drop 1 (wheel_of self.old).seats) 0 }
     {
-        let n = self.len;
-        self.seats.copy_within(1..n, 0);
-        self.len = n - 1;
+        self.seats.remove(0);
         self.used = 0;
     }
 

@@ -10,15 +10,14 @@ impl<D: Dealing> Queue<D> {
     pub fn claims(&self) -> &[Claim]
         ensures { result.now ≡ (standing self.now).claims }
     {
-        &self.claims[0..self.len]
+        self.claims.as_slice()
     }
 
     /// How many claims stand.
     pub(crate) fn count(&self) -> usize
-        ensures standing { result ≡ length (standing self.now).claims }
-        ensures len { result ≡ self.now.len }
+        ensures { result ≡ length (standing self.now).claims }
     {
-        self.claims[0..self.len].len()
+        self.claims.len()
     }
 
     /// The wheel of those who have a claim.

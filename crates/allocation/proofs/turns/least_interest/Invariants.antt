@@ -4,5 +4,5 @@ use Rattle.allocation.specs.Amounts.{amounts}
 use Rattle.allocation.proofs.turns.least_interest.Given as goal
 
 -- nobody of those met has less
-abbrev pub invariant-loop-i : goal.invariant-loop-i
-invariant-loop-i l = (k : ℕ) → 0 < seats_of k (take l.i l.seats) → l.least ≤ amounts l.interests k
+abbrev pub invariant-loop-seat : goal.invariant-loop-seat
+invariant-loop-seat l = (k : ℕ) → 0 < seats_of k (take l.seat-index l.seats) → l.least ≤ amounts l.interests k

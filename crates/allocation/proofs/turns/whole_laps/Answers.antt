@@ -11,7 +11,7 @@ overflow_mul-each c =
     let n = c.min.result in
     let lot = c.args.lot in
     let len = length c.seats-seats.result.now in
-    let some = some_seat c.args.wheel.now c.args.interests.now c.args.left c.requires.going in
+    let some = some_seat c.args.wheel.now c.args.tables.now.interests c.args.left c.requires.going in
     let count = ap length c.seats-seats.ensures.seats in
     let within : n * lot * len ≤ c.args.left = laps_within n lot len c.args.left (omega arith) in
     record { fits = omega (arith, within, seats_more (n * lot) len (omega arith), c.ranges.left.fits) }
@@ -30,10 +30,10 @@ returns c =
     let n = c.min.result in
     let lot = c.args.lot in
     let seats = (wheel_of w).seats in
-    let low : (k : ℕ) → 0 < seats_of k seats → c.least_interest-least.result ≤ amounts c.args.interests.now k = λ k h. c.least_interest-least.ensures k (omega (arith, ap (seats_of k) c.seats-seats.ensures.seats)) in
-    let each : (k : ℕ) → amounts c.give_each.new.interests k ≡ amounts c.args.interests.now k - n * lot * seats_of k seats = λ k. c.give_each.ensures.less k ∙ ap (λ s. amounts c.args.interests.now k - n * lot * seats_of k s) c.seats-seats.ensures.seats in
+    let low : (k : ℕ) → 0 < seats_of k seats → c.least_interest-least.result ≤ amounts c.args.tables.now.interests k = λ k h. c.least_interest-least.ensures k (omega (arith, ap (seats_of k) c.seats-seats.ensures.seats)) in
+    let each : (k : ℕ) → amounts c.give_each.new.tables.interests k ≡ amounts c.args.tables.now.interests k - n * lot * seats_of k seats = λ k. c.give_each.ensures.less k ∙ ap (λ s. amounts c.args.tables.now.interests k - n * lot * seats_of k s) c.seats-seats.ensures.seats in
     record {
-      on = (n * length seats, laps_dealt lot w c.args.interests.now c.give_each.new.interests c.args.left n (length c.seats-seats.result.now) c.least_interest-least.result (omega arith) c.requires.seated (ap length c.seats-seats.ensures.seats) (omega arith) (omega (arith, ap (λ m. m / lot) c.saturating_sub.ensures)) low each);
+      on = (n * length seats, laps_dealt lot w c.args.tables.now.interests c.give_each.new.tables.interests c.args.left n (length c.seats-seats.result.now) c.least_interest-least.result (omega arith) c.requires.seated (ap length c.seats-seats.ensures.seats) (omega arith) (omega (arith, ap (λ m. m / lot) c.saturating_sub.ensures)) low each);
       same = c.give_each.ensures.same;
       most = omega arith;
     }

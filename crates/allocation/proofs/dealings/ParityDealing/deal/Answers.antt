@@ -1,7 +1,7 @@
 use Rattle.std.proofs.Common.{◌≡◌, ℕ, ◌-◌, ◌<◌, List, [], map, length, sym, ap, ◌∙◌, subst, rules}
 use mathlib.Core.Path.{fun_ext}
 use mathlib.Core.List.{map-map}
-use Rattle.std.specs.List.{AllByRecursion}
+use Rattle.std.proofs.ByRecursion.{All-weaker}
 use Rattle.allocation.specs.ByTime.{time_shares}
 use Rattle.allocation.specs.Amounts.{amounts}
 use Rattle.allocation.specs.Turns.{Stage, turns}
@@ -21,13 +21,10 @@ take_turns-taken-requires g c =
     let same = whole cs c.interests_left-interests.result c.interests_left-interests.ensures in
     subst (λ (f : ℕ → ℕ). Seated c.args.lot (wheel_of c.args.wheel.now) f) (sym same) c.requires.seated
 
-pub by_time-requires : goal.by_time-requires
-by_time-requires g c =
+pub by_time-requires-clause-groups_there : goal.by_time-requires-clause-groups_there
+by_time-requires-clause-groups_there g c =
     let long : length c.take_turns-taken.result ≡ 25 = search rules in
-    record {
-      one_each = c.requires.one_each;
-      groups_there = subst (λ (n : ℕ). AllByRecursion (λ x. (g.C.Claimed.claim x).participant < n) c.args.claims.now) (sym long) c.requires.known;
-    }
+    All-weaker (λ x. (g.C.Claimed.claim x).participant < 25) _ (λ x known k gives. search rules) c.args.claims.now c.requires.known
 
 pub returns : goal.returns
 returns g c =
@@ -41,6 +38,6 @@ returns g c =
     let same = whole cs c.interests_left-interests.result c.interests_left-interests.ensures in
     let given : amounts t.result ≡ (λ p. interest p cs - (turns R q (from (λ p. interest p cs))).interests p) = fun_ext (λ p. t.ensures.each p ∙ ap (λ h. h p - (turns R q (from h)).interests p) same) in
     record {
-      shares = c.by_time.ensures ∙ ap (time_shares (amounts t.result)) (sym (map-map by_participant f c.args.claims.now)) ∙ ap (λ h. time_shares h (map by_participant cs)) given;
+      shares = c.by_time.ensures (λ x. x.participant) (λ x k gives. search rules) ∙ ap (time_shares (amounts t.result)) (sym (map-map by_participant f c.args.claims.now)) ∙ ap (λ h. time_shares h (map by_participant cs)) given;
       wheel = t.ensures.wheel ∙ ap (λ h. (turns R q (from h)).wheel) same;
     }

@@ -1,8 +1,6 @@
-use Rattle.std.proofs.Common.{ltb, ap, ◌∙◌}
-use mathlib.Core.Path.{fun_ext}
-use Rattle.allocation.specs.Wheels.{retain}
-use Rattle.allocation.specs.Memory.{wheel_of}
+use Rattle.std.proofs.Common.{ltb, rules}
+use Rattle.allocation.specs.Amounts.{amounts}
 use Rattle.allocation.proofs.wheels.Wheel.lose_seats_without_interest.Goals as goal
 
-pub returns : goal.returns
-returns g c = c.retain.ensures ∙ ap (λ t. retain t (wheel_of c.args.self.now)) (fun_ext (λ p. ap (ltb 0) (c.interests_left.ensures p)))
+pub retain-requires-clause-tests : goal.retain-requires-clause-tests
+retain-requires-clause-tests g c = (λ p. ltb 0 (amounts c.interests_left-left.result p), λ k b gives. search rules)
