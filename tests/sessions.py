@@ -127,7 +127,7 @@ def told_row(row):
 
 def told_answer(answer):
     number, traded, back, rows = answer
-    told = f"Accepted {traded} {back}" if number == 0 else f"Refused Refusal.{REFUSALS[number]}"
+    told = f"accepted {traded} {back}" if number == 0 else f"refused Refusal.{REFUSALS[number]}"
     return f"({told}, {listed(map(told_row, rows))})"
 
 
@@ -162,9 +162,9 @@ use Rattle.rules.specs.declared.orders.Order.{Order}
 use Rattle.rules.specs.declared.phases.Phase.TheVariants as Phase
 use Rattle.rules.specs.declared.phases.Step.TheVariants as Step
 use Rattle.rules.specs.declared.calls.Call.TheVariants.{Open, Halt, Resume, Close, Quote, Enter, Cancel, Reduce}
-use Rattle.rules.specs.declared.answers.Answer.TheVariants.{Accepted, Refused}
 use Rattle.rules.specs.declared.answers.Refusal.TheVariants as Refusal
 use Rattle.rules.specs.declared.answers.Row.TheVariants.{Trade, GivenBack}
+use Rattle.rules.specs.Codes.{accepted, refused}
 use Rattle.rules.specs.Books.{Ranking, ranked_by, Book, part, queue, level}
 use Rattle.rules.specs.Rules.{steps, new_book}
 use Rattle.rules.specs.Runs.{Event, run, final}

@@ -1,11 +1,11 @@
 -- Loops over amounts. Assumes nothing.
-use Rattle.std.proofs.Common.{◌≡◌, ℕ, suc, ◌+◌, ◌-◌, ◌<◌, ◌≤◌, min, max, Bool, true, false, cond, eqb, leb, List, [], ◌∷◌, ◌++◌, map, reverse, length, get_or, take, drop, set, sym, refl, ap, ◌∙◌, ⊎_elim, append_assoc, append-nil, arith}
-use Rattle.std.proofs.lemmas.List.{at_drop_more, at_drop_all, take_more_set, take_all, take_more, drop-set, set_split, reverse-append}
-use Rattle.std.proofs.lemmas.Bool.{eq-eqb, ne_eqb, cases_eq}
+use Rattle.std.proofs.Common.{◌≡◌, ℕ, zero, suc, fold, replicate, ◌+◌, ◌-◌, ◌<◌, ◌≤◌, min, false, eqb, leb, List, [], ◌∷◌, ◌++◌, map, reverse, length, get_or, take, drop, set, sym, refl, ap, subst, ◌∙◌, append_assoc, append-nil, arith}
+use Rattle.std.proofs.lemmas.List.{at_drop_more, at_drop_all, take_more_set, take_all, drop_all, drop-set, length_push, reverse-append}
+use Rattle.std.proofs.lemmas.Bool.{eq-eqb, ne_eqb}
 use Rattle.std.proofs.lemmas.Bool.Decides.{nat_tests}
 use Rattle.allocation.specs.ByTime.{shares_in_order}
 use Rattle.allocation.specs.Dealings.{sum}
-use Rattle.rules.specs.Lists.{sum_of, any, last_alone}
+use Rattle.rules.specs.Lists.{sum_of, last_alone}
 use Rattle.rules.specs.Books.{part}
 use Rattle.rules.specs.Reserve.{raised}
 use Rattle.rules.specs.declared.orders.Part.{Part}
@@ -14,32 +14,32 @@ use Rattle.rules.proofs.Queues.{sum_reverse}
 
 -- ## A quantity less one amount after the other
 
-pub less_more : {X : Type 0} (f : X → ℕ) (xs : List X) (i : ℕ) (d : X) (left q : ℕ) → i < length xs → left - sum_of f (drop i xs) ≡ q - sum_of f xs → left - f (get_or xs i d) - sum_of f (drop (i + 1) xs) ≡ q - sum_of f xs
-less_more f xs i d left q lt so = let step = at_drop_more (sum_of f) xs i d lt in omega arith
+pub fold_less : {X : Type 0} (f : X → ℕ) (xs : List X) (q : ℕ) → fold (λ left x. left - f x) q xs ≡ q - sum_of f xs
+fold_less f [] q = omega arith
+fold_less f (x ∷ xs) q = let rest = fold_less f xs (q - f x) in omega (arith, rest)
 
-pub less_all : {X : Type 0} (f : X → ℕ) (xs : List X) (i left q : ℕ) → length xs ≤ i → left - sum_of f (drop i xs) ≡ q - sum_of f xs → left ≡ q - sum_of f xs
-less_all f xs i left q le so = let end = at_drop_all (sum_of f) xs i le in omega arith
-
-pub sum_more : (xs : List ℕ) (i left q : ℕ) → i < length xs → left - sum (drop i xs) ≡ q - sum xs → left - get_or xs i 0 - sum (drop (i + 1) xs) ≡ q - sum xs
-sum_more xs i left q lt so = let step = at_drop_more sum xs i 0 lt in omega arith
-
-pub sum_all : (xs : List ℕ) (i left q : ℕ) → length xs ≤ i → left - sum (drop i xs) ≡ q - sum xs → left ≡ q - sum xs
-sum_all xs i left q le so = let end = at_drop_all sum xs i le in omega arith
+pub sum_is : (xs : List ℕ) → sum xs ≡ sum_of (λ x. x) xs
+sum_is [] = refl
+sum_is (x ∷ xs) = ap (λ n. x + n) (sum_is xs)
 
 pub none_left : (lot n left : ℕ) → left ≡ lot - n → eqb left 0 ≡ leb lot n
 none_left lot n left e = grind (arith, nat_tests)
 
 -- ## Shares in order
 
-pub in_order_more : {X : Type 0} (f : X → ℕ) (ps : List X) (ys all : List ℕ) (i left : ℕ) (d : X) → i < length ps → i < length ys
+-- one more takes x of what is left, of which n counts
+pub in_order_more : {X : Type 0} (f : X → ℕ) (ps : List X) (ys all : List ℕ) (i left : ℕ) (d : X) (n x after : ℕ) → i < length ps → i < length ys
+    → n ≡ f (get_or ps i d) → x ≡ min left n → after ≡ left - n
     → take i ys ++ shares_in_order left (map f (drop i ps)) ≡ all
-    → take (i + 1) (set ys i (min left (f (get_or ps i d)))) ++ shares_in_order (left - f (get_or ps i d)) (map f (drop (i + 1) ps)) ≡ all
-in_order_more f ps ys all i left d lt within so =
-    let x : ℕ = min left (f (get_or ps i d)) in
-    let rest : List ℕ = shares_in_order (left - f (get_or ps i d)) (map f (drop (i + 1) ps)) in
-    ap (λ l. l ++ rest) (take_more_set ys i x within)
-    ∙ append_assoc (take i ys) (x ∷ []) rest
-    ∙ ap (λ l. take i ys ++ l) (sym (at_drop_more (λ l. shares_in_order left (map f l)) ps i d lt ∙ in_order_cons left (f (get_or ps i d)) (map f (drop (i + 1) ps)))) ∙ so
+    → take (i + 1) (set ys i x) ++ shares_in_order after (map f (drop (i + 1) ps)) ≡ all
+in_order_more f ps ys all i left d n x after lt within counted is rest so =
+    let later : List ℕ = map f (drop (i + 1) ps) in
+    ap (λ l. l ++ shares_in_order after later) (take_more_set ys i x within)
+    ∙ append_assoc (take i ys) (x ∷ []) (shares_in_order after later)
+    ∙ ap (λ k. take i ys ++ (k ∷ shares_in_order after later)) is
+    ∙ ap (λ k. take i ys ++ (min left n ∷ shares_in_order k later)) rest
+    ∙ ap (λ k. take i ys ++ (min left k ∷ shares_in_order (left - k) later)) counted
+    ∙ ap (λ l. take i ys ++ l) (sym (at_drop_more (λ l. shares_in_order left (map f l)) ps i d lt ∙ in_order_cons left (f (get_or ps i d)) later)) ∙ so
 
 pub in_order_all : {X : Type 0} (f : X → ℕ) (ps : List X) (ys all : List ℕ) (i left : ℕ) → length ps ≤ i → length ys ≤ i → take i ys ++ shares_in_order left (map f (drop i ps)) ≡ all → ys ≡ all
 in_order_all f ps ys all i left le short so =
@@ -63,24 +63,6 @@ late_is q (x ∷ xs) =
     ∙ ap reverse (sym (in_order_append q back (x ∷ [])))
     ∙ ap (λ l. reverse (shares_in_order q l)) (sym (reverse-append (x ∷ []) xs))
 
-same : (xs : List ℕ) → sum xs ≡ 0 → last_alone xs ≡ xs
-same [] e = refl
-same (y ∷ ys) e = rw (eq-eqb (sum ys) 0 (omega arith))
-
-none_alone : (xs : List ℕ) → sum (last_alone xs) ≡ 0 → sum xs ≡ 0
-none_alone [] e = refl
-none_alone (y ∷ ys) e = ⊎_elim (λ z. rw (eq-eqb (sum ys) 0 z) at e) (λ nz. absurd (nz (none_alone ys (omega (arith, rw (ne_eqb (sum ys) 0 nz) at e))))) (cases_eq (sum ys) 0)
-
-alone_cons : (x : ℕ) (xs : List ℕ) → cond (eqb (sum (last_alone xs)) 0) x 0 ∷ last_alone xs ≡ last_alone (x ∷ xs)
-alone_cons x xs =
-    ⊎_elim
-    (λ z. rw (eq-eqb (sum xs) 0 z, eq-eqb (sum (last_alone xs)) 0 (ap sum (same xs z) ∙ z)) (ap (λ l. x ∷ l) (same xs z)))
-    (λ nz. rw (ne_eqb (sum xs) 0 nz, ne_eqb (sum (last_alone xs)) 0 (λ e. nz (none_alone xs e))))
-    (cases_eq (sum xs) 0)
-
-either : (n x : ℕ) → max n (cond (eqb n 0) x 0) ≡ cond (eqb n 0) x 0 + n
-either n x = grind (arith, nat_tests)
-
 module _ {X : Type 0} (f : X → ℕ) (ps : List X) (j : ℕ) (d : X) (lt : j < length ps) where
   mapped : map f (drop j ps) ≡ f (get_or ps j d) ∷ map f (drop (j + 1) ps)
   mapped = at_drop_more (map f) ps j d lt
@@ -95,60 +77,95 @@ module _ {X : Type 0} (f : X → ℕ) (ps : List X) (j : ℕ) (d : X) (lt : j < 
   pub left_more : (q left : ℕ) → left ≡ q - sum (map f (drop (j + 1) ps)) → left - f (get_or ps j d) ≡ q - sum (map f (drop j ps))
   left_more q left was = omega (arith, was, ap sum mapped)
 
-  -- the last that is not 0, alone
-  pub alone_more : (found : ℕ) (ys : List ℕ) → j < length ys → found ≡ sum (last_alone (map f (drop (j + 1) ps))) → drop (j + 1) ys ≡ last_alone (map f (drop (j + 1) ps)) → drop j (set ys j (cond (eqb found 0) (f (get_or ps j d)) 0)) ≡ last_alone (map f (drop j ps))
-  alone_more found ys within was so =
-      let xs : List ℕ = map f (drop (j + 1) ps) in
-      let x : ℕ = f (get_or ps j d) in
-      drop-set ys j (cond (eqb found 0) x 0) within
-      ∙ ap (λ l. cond (eqb found 0) x 0 ∷ l) so
-      ∙ ap (λ n. cond (eqb n 0) x 0 ∷ last_alone xs) was
-      ∙ alone_cons x xs
-      ∙ ap last_alone (sym mapped)
+front_is : {X : Type 0} (ps new : List X) (x d : X) → take (length (new ++ (x ∷ []))) ps ≡ new ++ (x ∷ []) → length (new ++ (x ∷ [])) ≤ length ps → (new ≡ take (length new) ps) × (x ≡ get_or ps (length new) d)
+front_is [] new x d e short = let no_way : ⊥ = omega (arith, short, length_push new x) in absurd no_way
+front_is (p ∷ ps) [] x d e short = (refl, sym (ap (λ l. get_or l 0 x) e))
+front_is (p ∷ ps) (y ∷ new) x d e short =
+    let tail = front_is ps new x d (ap (drop 1) e) (omega (arith, short)) in
+    (ap (λ k. k ∷ new) (sym (ap (λ l. get_or l 0 y) e)) ∙ ap (λ l. p ∷ l) tail.0, tail.1)
 
-  pub alone_size : (found : ℕ) → found ≡ sum (last_alone (map f (drop (j + 1) ps))) → max found (cond (eqb found 0) (f (get_or ps j d)) 0) ≡ sum (last_alone (map f (drop j ps)))
-  alone_size found was =
-      let xs : List ℕ = map f (drop (j + 1) ps) in
-      let x : ℕ = f (get_or ps j d) in
-      either found x
-      ∙ ap (λ n. cond (eqb n 0) x 0 + n) was
-      ∙ ap sum (alone_cons x xs ∙ ap last_alone (sym mapped))
+module _ {X : Type 0} (f : X → ℕ) (ps : List X) (q : ℕ) where
+  -- the parts of `rest` are still to come, and those behind them have their shares
+  pub record FromBack (rest : List X) (left : ℕ) (ys : List ℕ) : Type 0 where
+    pub front : rest ≡ take (length rest) ps
+    pub short : length rest ≤ length ps
+    pub given : drop (length rest) ys ≡ late q (map f (drop (length rest) ps))
+    pub taken : left ≡ q - sum (map f (drop (length rest) ps))
 
--- ## Sums and looks
+  pub from_back : (rest : List X) (ys : List ℕ) → rest ≡ ps → length ys ≡ length ps → FromBack rest q ys
+  from_back rest ys all same =
+      let none : map f (drop (length ps) ps) ≡ [] = at_drop_all (map f) ps (length ps) (omega arith) in
+      subst (λ l. FromBack l q ys) (sym all) (record {
+        front = sym (take_all (length ps) ps (omega arith));
+        short = omega arith;
+        given = drop_all (length ps) ys (omega (arith, same)) ∙ sym (ap (late q) none);
+        taken = omega (arith, ap sum none);
+      })
 
-pub of_more : {X : Type 0} (f : X → ℕ) (ps : List X) (i : ℕ) (d : X) (total : ℕ) → i < length ps → total + sum_of f (drop i ps) ≡ sum_of f ps → total + f (get_or ps i d) + sum_of f (drop (i + 1) ps) ≡ sum_of f ps
-of_more f ps i d total lt so = let step = at_drop_more (sum_of f) ps i d lt in omega arith
+  -- the part before takes y of what is left, of which n counts
+  pub from_back_more : (rest new : List X) (x d : X) (left n y after i : ℕ) (ys : List ℕ) → FromBack rest left ys → length ys ≡ length ps → rest ≡ new ++ (x ∷ []) → i ≡ length new → n ≡ f x → y ≡ min left n → after ≡ left - n → FromBack new after (set ys i y)
+  from_back_more rest new x d left n y after i ys h same cut at counts is less =
+      let j : ℕ = length new in
+      let up : length rest ≡ j + 1 = ap length cut ∙ length_push new x in
+      let here = front_is ps new x d (sym (ap (λ l. take (length l) ps) cut) ∙ sym h.front ∙ cut) (omega (arith, h.short, ap length cut)) in
+      let lt : j < length ps = omega (arith, h.short, up) in
+      let was : left ≡ q - sum (map f (drop (j + 1) ps)) = h.taken ∙ ap (λ k. q - sum (map f (drop k ps))) up in
+      let so : drop (j + 1) ys ≡ late q (map f (drop (j + 1) ps)) = ap (λ k. drop k ys) (sym up) ∙ h.given ∙ ap (λ k. late q (map f (drop k ps))) up in
+      let counted : n ≡ f (get_or ps j d) = counts ∙ ap f here.1 in
+      record {
+        front = here.0;
+        short = omega (arith, lt);
+        given = ap (λ k. drop j (set ys k y)) at ∙ ap (λ k. drop j (set ys j k)) (is ∙ ap (min left) counted) ∙ late_more f ps j d lt q left ys (omega (arith, lt, same)) was so;
+        taken = less ∙ ap (λ k. left - k) counted ∙ left_more f ps j d lt q left was;
+      }
 
-pub any_here : {X : Type 0} (t : X → Bool) (ps : List X) (i : ℕ) (d : X) → i < length ps → t (get_or ps i d) ≡ true → any t (drop i ps) ≡ true
-any_here t ps i d lt h = at_drop_more (any t) ps i d lt ∙ rw h
+  pub from_back_all : (rest : List X) (left : ℕ) (ys : List ℕ) → FromBack rest left ys → length rest ≡ 0 → ys ≡ reverse (shares_in_order q (reverse (map f ps)))
+  from_back_all rest left ys h none = ap (λ k. drop k ys) (sym none) ∙ h.given ∙ ap (λ k. late q (map f (drop k ps))) none ∙ late_is q (map f ps)
 
-pub any_more : {X : Type 0} (t : X → Bool) (ps : List X) (i : ℕ) (d : X) → i < length ps → t (get_or ps i d) ≡ false → any t (drop (i + 1) ps) ≡ any t (drop i ps)
-any_more t ps i d lt h = sym (at_drop_more (any t) ps i d lt ∙ rw h)
+-- ## The latest that counts
+
+pub sum_none : (n : ℕ) → sum (replicate n 0) ≡ 0
+sum_none zero = refl
+sum_none (suc n) = let rest = sum_none n in omega (arith, rest)
+
+module _ {X : Type 0} (f : X → ℕ) (d : X) where
+  all_none : (ps : List X) → ((j : ℕ) → j < length ps → f (get_or ps j d) ≡ 0) → replicate (length ps) 0 ≡ map f ps
+  all_none [] none = refl
+  all_none (p ∷ ps) none = rw (none 0 (omega arith)) (ap (λ l. 0 ∷ l) (all_none ps (λ j lt. none (suc j) (omega (arith, lt)))))
+
+  counts_some : (ps : List X) (k : ℕ) → k < length ps → f (get_or ps k d) ≤ sum (map f ps)
+  counts_some [] k lt = absurd (omega (arith, lt))
+  counts_some (p ∷ ps) zero lt = omega arith
+  counts_some (p ∷ ps) (suc k) lt = let rest = counts_some ps k (omega (arith, lt)) in omega (arith, rest)
+
+  pub alone_none : (ps : List X) → ((j : ℕ) → j < length ps → f (get_or ps j d) ≡ 0) → replicate (length ps) 0 ≡ last_alone (map f ps)
+  alone_none [] none = refl
+  alone_none (p ∷ ps) none =
+      let rest = all_none ps (λ j lt. none (suc j) (omega (arith, lt))) in
+      rw (eq-eqb (sum (map f ps)) 0 (ap sum (sym rest) ∙ sum_none (length ps)), none 0 (omega arith)) (ap (λ l. 0 ∷ l) rest)
+
+  pub alone_at : (ps : List X) (k : ℕ) → k < length ps → 0 < f (get_or ps k d) → ((j : ℕ) → k < j → j < length ps → f (get_or ps j d) ≡ 0) → set (replicate (length ps) 0) k (f (get_or ps k d)) ≡ last_alone (map f ps)
+  alone_at [] k lt some none = absurd (omega (arith, lt))
+  alone_at (p ∷ ps) zero lt some none =
+      let rest = all_none ps (λ j le. none (suc j) (omega arith) (omega (arith, le))) in
+      rw (eq-eqb (sum (map f ps)) 0 (ap sum (sym rest) ∙ sum_none (length ps))) (ap (λ l. f p ∷ l) rest)
+  alone_at (p ∷ ps) (suc k) lt some none =
+      let rest = counts_some ps k (omega (arith, lt)) in
+      rw (ne_eqb (sum (map f ps)) 0 (λ e. absurd (omega (arith, some, rest, e)))) (ap (λ l. 0 ∷ l) (alone_at ps k (omega (arith, lt)) some (λ j below within. none (suc j) (omega (arith, below)) (omega (arith, within)))))
+
+pub sum_alone : (n k x : ℕ) → k < n → sum (set (replicate n 0) k x) ≡ x
+sum_alone zero k x lt = absurd (omega (arith, lt))
+sum_alone (suc n) zero x lt = let rest = sum_none n in omega (arith, rest)
+sum_alone (suc n) (suc k) x lt = let rest = sum_alone n k x (omega (arith, lt)) in omega (arith, rest)
 
 -- ## The first part of an order
 
 module _ (n m : ℕ) where
-  raise_here : (p : Part) (ps : List Part) → p.order ≡ n → raised n m (p ∷ ps) ≡ part p.order p.participant (p.quantity + m) p.marked ∷ ps
-  raise_here p ps e = rw (eq-eqb p.order n e)
+  pub raised_at : (ps : List Part) (k : ℕ) (d : Part) → k < length ps → (get_or ps k d).order ≡ n → ((j : ℕ) → j < k → eqb (get_or ps j d).order n ≡ false) → raised n m ps ≡ set ps k (part (get_or ps k d).order (get_or ps k d).participant ((get_or ps k d).quantity + m) (get_or ps k d).marked)
+  raised_at [] k d lt e none = absurd (omega (arith, lt))
+  raised_at (p ∷ ps) zero d lt e none = rw (eq-eqb p.order n e)
+  raised_at (p ∷ ps) (suc k) d lt e none = rw (none 0 (omega arith)) (ap (λ l. p ∷ l) (raised_at ps k d (omega (arith, lt)) e (λ j le. none (suc j) (omega (arith, le)))))
 
-  raise_next : (p : Part) (ps : List Part) → (p.order ≡ n → ⊥) → raised n m (p ∷ ps) ≡ p ∷ raised n m ps
-  raise_next p ps e = rw (ne_eqb p.order n e)
-
-  pub raised_here : (ps : List Part) (i : ℕ) (d : Part) → i < length ps → (get_or ps i d).order ≡ n → raised n m ps ≡ take i ps ++ raised n m (drop i ps) → raised n m ps ≡ set ps i (part (get_or ps i d).order (get_or ps i d).participant ((get_or ps i d).quantity + m) (get_or ps i d).marked)
-  raised_here ps i d lt e so =
-      let p : Part = get_or ps i d in
-      let one : i + 1 ≡ suc i = omega arith in
-      so
-      ∙ ap (λ l. take i ps ++ l) (at_drop_more (raised n m) ps i d lt ∙ raise_here p (drop (i + 1) ps) e)
-      ∙ ap (λ k. take i ps ++ (part p.order p.participant (p.quantity + m) p.marked ∷ drop k ps)) one
-      ∙ sym (set_split ps i (part p.order p.participant (p.quantity + m) p.marked) lt)
-
-  pub raised_more : (ps : List Part) (i : ℕ) (d : Part) → i < length ps → ((get_or ps i d).order ≡ n → ⊥) → raised n m ps ≡ take i ps ++ raised n m (drop i ps) → raised n m ps ≡ take (i + 1) ps ++ raised n m (drop (i + 1) ps)
-  raised_more ps i d lt e so =
-      so
-      ∙ ap (λ l. take i ps ++ l) (at_drop_more (raised n m) ps i d lt ∙ raise_next (get_or ps i d) (drop (i + 1) ps) e)
-      ∙ sym (append_assoc (take i ps) (get_or ps i d ∷ []) (raised n m (drop (i + 1) ps)))
-      ∙ ap (λ l. l ++ raised n m (drop (i + 1) ps)) (sym (take_more ps i d lt))
-
-  pub raised_none : (ps : List Part) (i : ℕ) → length ps ≤ i → raised n m ps ≡ take i ps ++ raised n m (drop i ps) → raised n m ps ≡ ps
-  raised_none ps i le so = so ∙ ap (λ l. take i ps ++ l) (at_drop_all (raised n m) ps i le) ∙ append-nil (take i ps) ∙ take_all i ps le
+  pub raised_none : (ps : List Part) (d : Part) → ((j : ℕ) → j < length ps → eqb (get_or ps j d).order n ≡ false) → raised n m ps ≡ ps
+  raised_none [] d none = refl
+  raised_none (p ∷ ps) d none = rw (none 0 (omega arith)) (ap (λ l. p ∷ l) (raised_none ps d (λ j le. none (suc j) (omega (arith, le)))))

@@ -2,7 +2,6 @@
 #![tactic(auto)]
 
 mod sharing;
-mod sizes;
 mod summing;
 
 pub use sharing::{latest_alone, to_marked, to_order, to_order_latest_first};

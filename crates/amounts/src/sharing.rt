@@ -1,21 +1,30 @@
 //! A quantity is shared out among some of the parts: each takes what it can.
-ghost use Rattle.std.specs.Prelude.{◌≡◌, map, reverse, length, if◌then◌else◌, nat_eq};
+ghost use Rattle.std.specs.Prelude.{◌≡◌, ℕ, map, reverse, length, if◌then◌else◌};
+ghost use Rattle.std.specs.Fn.{FnReturnsAt};
 ghost use Rattle.allocation.specs.ByTime.{shares_in_order};
 ghost use Rattle.allocation.specs.Dealings.{sum};
 ghost use Rattle.rules.specs.Lists.{last_alone};
-ghost use Rattle.rules.specs.Quantities.{pieces};
+ghost use Rattle.rules.specs.Quantities.{of_part, pieces};
+ghost use Rattle.rules.specs.declared.orders.Part.{Part as RulePart};
 
-use crate::sizes::{Counts, Marked, OfOrder};
+use crate::summing::of_part;
 use rules::Part;
 
-/// The parts that count take what they can, earliest first.
-fn in_order<S: Counts>(which: &S, quantity: u32, parts: &[Part], shares: &mut [u32])
-    requires { length shares.old ≡ length parts.now }
-    ensures { shares.new ≡ shares_in_order quantity (map (S.size which.now) parts.now) }
+/// Each part takes what it can of what counts of it, earliest first.
+fn share_in_order<F: Fn(&Part) -> u32>(
+    counted: F,
+    quantity: u32,
+    parts: &[Part],
+    shares: &mut [u32],
+)
+    requires lengths { length shares.old ≡ length parts.now }
+    requires callable { F.IsAlwaysCallable counted }
+    ensures { (size : RulePart → ℕ) → ((p : RulePart) (n : ℕ) → FnReturnsAt F.Fn counted p n → n ≡ size p) → shares.new ≡ shares_in_order quantity (map size parts.now) }
 {
     let mut left = quantity;
-    for i in 0..parts.len() {
-        let size = which.size(&parts[i]);
+    // By index: after an adapter of `iter_mut` a proof knows only how many there are.
+    for (i, part) in parts.iter().enumerate() {
+        let size = counted(part);
         shares[i] = left.min(size);
         left = left.saturating_sub(size);
     }
@@ -26,7 +35,12 @@ pub fn to_marked(quantity: u32, parts: &[Part], shares: &mut [u32])
     requires { length shares.old ≡ length parts.now }
     ensures { shares.new ≡ shares_in_order quantity (map (λ p. (if p.marked then p.quantity else 0)) parts.now) }
 {
-    in_order(&Marked, quantity, parts, shares);
+    share_in_order(
+        |p| if p.marked { p.quantity } else { 0 },
+        quantity,
+        parts,
+        shares,
+    );
 }
 
 /// The parts of one order take what they can, earliest first.
@@ -34,30 +48,22 @@ pub fn to_order(order: u32, quantity: u32, parts: &[Part], shares: &mut [u32])
     requires { length shares.old ≡ length parts.now }
     ensures { shares.new ≡ shares_in_order quantity (pieces order parts.now) }
 {
-    in_order(&OfOrder(order), quantity, parts, shares);
+    share_in_order(|p| of_part(order, p), quantity, parts, shares);
 }
 
+// Beside `share_in_order`: one text for both would take the walk as a parameter, which is no plainer.
 /// The parts of one order take what they can, latest first.
 pub fn to_order_latest_first(order: u32, quantity: u32, parts: &[Part], shares: &mut [u32])
     requires { length shares.old ≡ length parts.now }
     ensures { shares.new ≡ reverse (shares_in_order quantity (reverse (pieces order parts.now))) }
 {
-    let which = OfOrder(order);
     let mut left = quantity;
-    let mut i = parts.len();
-    while i > 0 {
-        i -= 1;
-        let size = which.size(&parts[i]);
+    // By index: after an adapter of `iter_mut` a proof knows only how many there are.
+    for (i, part) in parts.iter().enumerate().rev() {
+        let size = of_part(order, part);
         shares[i] = left.min(size);
         left = left.saturating_sub(size);
     }
-}
-
-/// `size`, unless something was found.
-fn unless(found: u32, size: u32) -> u32
-    ensures { result ≡ (if nat_eq found 0 then size else 0) }
-{
-    if found == 0 { size } else { 0 }
 }
 
 /// The latest part of one order takes all it has, and the others nothing. What it has.
@@ -66,14 +72,11 @@ pub fn latest_alone(order: u32, parts: &[Part], shares: &mut [u32]) -> u32
     ensures shares { shares.new ≡ last_alone (pieces order parts.now) }
     ensures size { result ≡ sum (last_alone (pieces order parts.now)) }
 {
-    let which = OfOrder(order);
-    let mut latest = 0;
-    let mut i = parts.len();
-    while i > 0 {
-        i -= 1;
-        let size = unless(latest, which.size(&parts[i]));
+    let latest = parts.iter().rposition(|p| of_part(order, p) > 0);
+    let size = latest.map_or(0, |i| of_part(order, &parts[i]));
+    shares.fill(0);
+    if let Some(i) = latest {
         shares[i] = size;
-        latest = latest.max(size);
     }
-    latest
+    size
 }

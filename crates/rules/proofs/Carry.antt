@@ -1,5 +1,5 @@
 -- Kind.Reserve carries interest and slack over. Assumes nothing.
-use Rattle.std.proofs.Common.{◌≡◌, ℕ, ◌-◌, ◌<◌, ◌≤◌, min, Bool, true, false, cond, ◌&&◌, eqb, List, [], ◌∷◌, fold, sym, refl, subst, arith}
+use Rattle.std.proofs.Common.{◌≡◌, ℕ, ◌-◌, ◌<◌, ◌≤◌, min, Bool, true, ◌&&◌, List, [], ◌∷◌, fold, sym, refl, subst, arith}
 use Rattle.std.specs.List.{AllByRecursion}
 use Rattle.std.proofs.lemmas.List.{map_push}
 use Rattle.std.proofs.lemmas.Bool.{ltb-true, and_parts}
@@ -16,11 +16,11 @@ use Rattle.rules.specs.Lists.{last_alone, Distinct}
 use Rattle.rules.specs.Books.{Level, queue, part, Queue, level, Ranking, side, Book, with_side}
 use Rattle.rules.specs.Quantities.{claims, claim, pieces, of_order}
 use Rattle.rules.specs.Changes.{lose, put, on_price, put_shown, put_hidden}
-use Rattle.rules.specs.Marks.{earns_mark}
-use Rattle.rules.specs.Reserve.{join_hidden, runs_low, shows_two, on, raised, show_anew, replenish_order, is_reserve, hidden_of}
+use Rattle.rules.specs.Reserve.{join_hidden, runs_low, shows_two, on, raised, show_anew, replenish_order}
 use Rattle.rules.specs.Entering.{two_parts, shown_part, hidden_part, place}
 use Rattle.rules.specs.LeadLaw.{queue_in, level_at}
 use Rattle.rules.specs.Invariants.{SoundLevel, numbers}
+use Rattle.rules.proofs.Renewed.{joined_by, anew_by, renewed_by, two_parts_by}
 use Rattle.rules.proofs.Amounts.{interest_lowered, interest_lower_le}
 use Rattle.rules.proofs.Seats.{interest_push}
 use Rattle.rules.proofs.Levels.{raised_interest, join_hidden_good}
@@ -62,25 +62,22 @@ module _ (p r lot : ℕ) where
   carry_trans Category.Hidden l m n a b = λ h. let y = b h in let x = a y.0 in (x.0, omega (arith, x.1, y.1))
 
   pub carry_join_hidden : (es : List Order) (n : ℕ) (cat : Category) (l : Level) → SoundLevel lot l → MineAt es l → Carry p r lot cat l (join_hidden lot n l)
-  unfolding join_hidden lose
-  carry_join_hidden es n cat l g m = go cat (runs_low lot n l && shows_two n l) refl
+  unfolding lose
+  carry_join_hidden es n cat l g m = joined_by (Carry p r lot cat l) lot n l (carry_refl cat l) (joins cat)
     where
       xs : List ℕ
       xs = last_alone (pieces n l.shown.parts)
 
-      go : (cat : Category) (t : Bool) → (runs_low lot n l && shows_two n l) ≡ t → Carry p r lot cat l (cond t (level l.price (lose xs l.shown) (queue (raised n (sum xs) l.hidden.parts) l.hidden.wheel)) l)
-      go Category.Displayed true e = λ h.
+      joins : (cat : Category) → (runs_low lot n l && shows_two n l) ≡ true → Carry p r lot cat l (level l.price (lose xs l.shown) (queue (raised n (sum xs) l.hidden.parts) l.hidden.wheel))
+      joins Category.Displayed e = λ h.
           let two = ltb-true (sum xs) (of_order n l.shown.parts) (and_parts (runs_low lot n l) (shows_two n l) e).1 in
           let k : 0 < interest p (claims (lose xs l.shown).parts) = rejoined_interest es p n l.shown.parts m.0 two h in
           (k, lose_slack p r lot xs l.shown g.0 k)
-      go Category.Hidden true e = λ h.
+      joins Category.Hidden e = λ h.
           (omega (arith, raised_interest p n (sum xs) l.hidden.parts g.1.positive), omega arith)
-      go Category.Displayed false e = λ h. (h, omega arith)
-      go Category.Hidden false e = λ h. (h, omega arith)
 
   pub carry_show_anew : (e : Order) (mark : Bool) (cat : Category) (l : Level) → SoundLevel lot l → Carry p r lot cat l (show_anew lot e mark l)
-  unfolding show_anew
-  carry_show_anew e mark cat l g = go cat (runs_low lot e.number l)
+  carry_show_anew e mark cat l g = anew_by (Carry p r lot cat l) lot e mark l (λ _. carry_refl cat l) (λ _. shows cat)
     where
       n : ℕ
       n = min e.display (of_order e.number l.hidden.parts)
@@ -91,11 +88,9 @@ module _ (p r lot : ℕ) where
       ys : List ℕ
       ys = shares_in_order n (pieces e.number l.hidden.parts)
 
-      go : (cat : Category) (t : Bool) → Carry p r lot cat l (cond t (level l.price (put x l.shown) (lose ys l.hidden)) l)
-      go Category.Displayed true = λ h. let a = put_more p x l.shown in let b = put_slack p r lot x l.shown g.0 h in (omega arith, omega arith)
-      go Category.Hidden true = λ h. let a = lose_less p ys l.hidden in (omega arith, lose_slack p r lot ys l.hidden g.1 h)
-      go Category.Displayed false = λ h. (h, omega arith)
-      go Category.Hidden false = λ h. (h, omega arith)
+      shows : (cat : Category) → Carry p r lot cat l (level l.price (put x l.shown) (lose ys l.hidden))
+      shows Category.Displayed = λ h. let a = put_more p x l.shown in let b = put_slack p r lot x l.shown g.0 h in (omega arith, omega arith)
+      shows Category.Hidden = λ h. let a = lose_less p ys l.hidden in (omega arith, lose_slack p r lot ys l.hidden g.1 h)
 
 -- ## Through reserve
 
@@ -121,14 +116,10 @@ module _ (rank : Ranking) (O : TotalOrder rank.good) (lot : ℕ) (pos : 0 < lot)
   good_seen v s b f = good_at lot v (side s b) pos (side_good lot s b f)
 
   replenish_order_carry : (p r : ℕ) (cat : Category) (s : Side) (v : ℕ) (es : List Order) (b : Book) (e : Order) → Distinct (numbers es) → Midway rank O lot pos es b → Carry p r lot cat (level_at v (side s b)) (level_at v (side s (replenish_order rank b e)))
-  unfolding replenish_order
-  replenish_order_carry p r cat s v es b e once t = go (is_reserve e.kind)
+  replenish_order_carry p r cat s v es b e once t = renewed_by (λ d. Carry p r lot cat l (level_at v (side s d))) rank b e (carry_refl p r lot cat l) (λ mark _. carry_trans p r lot cat l m (level_at v (side s (on rank e (show_anew b.lot e mark) c))) one (two mark))
     where
       c : Book
       c = on rank e (join_hidden b.lot e.number) b
-
-      mark : Bool
-      mark = earns_mark rank e.side e.price (min e.display (hidden_of e.number (side e.side c))) c
 
       l : Level
       l = level_at v (side s b)
@@ -143,13 +134,9 @@ module _ (rank : Ranking) (O : TotalOrder rank.good) (lot : ℕ) (pos : 0 < lot)
       one = on_seen (λ x. Carry p r lot cat l x) s v e (join_hidden b.lot e.number) b (join_hidden_still b.lot e.number) t.ranked (carry_refl p r lot cat l)
           (subst (λ k. Carry p r lot cat l (join_hidden k e.number l)) (sym t.sides.is) (carry_join_hidden p r lot es e.number cat l (good_seen v s b t.sides) (mine_at es v (side s b) (orderly_mine es s (side s b) once (orderly_side es s b t.both)))))
 
-      two : Carry p r lot cat m (level_at v (side s (on rank e (show_anew b.lot e mark) c)))
-      two = on_seen (λ x. Carry p r lot cat m x) s v e (show_anew b.lot e mark) c (show_anew_still b.lot e mark) (on_ranked rank O e (join_hidden b.lot e.number) b (join_hidden_still b.lot e.number) t.ranked) (carry_refl p r lot cat m)
+      two : (mark : Bool) → Carry p r lot cat m (level_at v (side s (on rank e (show_anew b.lot e mark) c)))
+      two mark = on_seen (λ x. Carry p r lot cat m x) s v e (show_anew b.lot e mark) c (show_anew_still b.lot e mark) (on_ranked rank O e (join_hidden b.lot e.number) b (join_hidden_still b.lot e.number) t.ranked) (carry_refl p r lot cat m)
           (subst (λ k. Carry p r lot cat m (show_anew k e mark m)) (sym t.sides.is) (carry_show_anew p r lot e mark cat m (good_seen v s c sides)))
-
-      go : (x : Bool) → Carry p r lot cat l (level_at v (side s (cond x (on rank e (show_anew b.lot e mark) c) b)))
-      go true = carry_trans p r lot cat l m (level_at v (side s (on rank e (show_anew b.lot e mark) c))) one two
-      go false = carry_refl p r lot cat l
 
   pub all_carry : (p r : ℕ) (cat : Category) (s : Side) (v : ℕ) (es : List Order) (b : Book) (xs : List Order) → Distinct (numbers es) → AllByRecursion Displays xs → AllByRecursion (OwnListed es) xs → Midway rank O lot pos es b → Carry p r lot cat (level_at v (side s b)) (level_at v (side s (fold (replenish_order rank) b xs)))
   all_carry p r cat s v es b [] once d o t = carry_refl p r lot cat (level_at v (side s b))
@@ -171,19 +158,17 @@ module _ (rank : Ranking) (O : TotalOrder rank.good) (lot : ℕ) (pos : 0 < lot)
   put_hidden_stays p r Category.Hidden x l g h = let a = put_slack p r lot x l.hidden g.1 h in omega arith
 
   two_stays : (p r : ℕ) (cat : Category) (b : Book) (e : Order) (n : ℕ) (l : Level) → SoundLevel lot l → Stays p r cat l (two_parts rank b e n l)
-  two_stays p r cat b e n l g h = go cat (eqb (n - d) 0) h
+  two_stays p r cat b e n l g h = two_parts_by (λ k. slack_in p r lot cat l ≤ slack_in p r lot cat k) rank b e n l (λ _. shown cat h) (λ _. both cat h)
     where
       d : ℕ
       d = min e.display n
 
-      x : Part
-      x = shown_part rank b e d
+      shown : (cat : Category) → 0 < has_int cat p l → slack_in p r lot cat l ≤ slack_in p r lot cat (put_shown (shown_part rank b e d) l)
+      shown cat h = put_shown_stays p r cat (shown_part rank b e d) l g h
 
-      go : (cat : Category) (t : Bool) → 0 < has_int cat p l → slack_in p r lot cat l ≤ slack_in p r lot cat (cond t (put_shown x l) (put_hidden (hidden_part e (n - d)) (put_shown x l)))
-      go Category.Displayed true h = let a = put_slack p r lot x l.shown g.0 h in omega arith
-      go Category.Displayed false h = let a = put_slack p r lot x l.shown g.0 h in omega arith
-      go Category.Hidden true h = omega arith
-      go Category.Hidden false h = let a = put_slack p r lot (hidden_part e (n - d)) l.hidden g.1 h in omega arith
+      both : (cat : Category) → 0 < has_int cat p l → slack_in p r lot cat l ≤ slack_in p r lot cat (put_hidden (hidden_part e (n - d)) (put_shown (shown_part rank b e d) l))
+      both Category.Displayed h = shown Category.Displayed h
+      both Category.Hidden h = put_hidden_stays p r Category.Hidden (hidden_part e (n - d)) l g h
 
   pub place_stays : (p r : ℕ) (cat : Category) (s : Side) (v : ℕ) (k : Kind) (e : Order) (n : ℕ) (b : Book) → Sides lot b → Ranked rank O b → Stays p r cat (level_at v (side s b)) (level_at v (side s (place rank k e n b)))
   unfolding place

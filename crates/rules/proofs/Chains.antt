@@ -15,8 +15,8 @@ use Rattle.rules.specs.Trading.{rows_of}
 use Rattle.rules.specs.Tables.{place_of}
 use Rattle.rules.specs.OrderLaw.{Reached, reached_part, forget, untraded, rows_for, Better}
 use Rattle.rules.proofs.Amounts.{AtMost}
-use Rattle.rules.proofs.Members.{sum_of_append, all_both}
-use Rattle.rules.proofs.Stages.{amount, Stage}
+use Rattle.rules.proofs.Members.{sum_of_append, all_both, always_by}
+use Rattle.rules.proofs.Stages.{amount, Stage, at_most_amount}
 
 abbrev pub meet : ℕ → Step → List Part → List ℕ → List Reached
 meet v s [] xs = []
@@ -44,15 +44,10 @@ meet_within v s [] xs h = tt
 meet_within v s (p ∷ ps) [] h = (omega arith, meet_within v s ps [] tt)
 meet_within v s (p ∷ ps) (x ∷ xs) h = (h.0, meet_within v s ps xs h.1)
 
-at_most_sum : (ps : List Part) (xs : List ℕ) → AtMost xs ps → sum xs ≤ amount ps
-at_most_sum ps [] h = omega arith
-at_most_sum [] (x ∷ xs) h = absurd h
-at_most_sum (p ∷ ps) (x ∷ xs) h = omega (arith, h.0, at_most_sum ps xs h.1)
-
 meet_full : (v : ℕ) (s : Step) (ps : List Part) (xs : List ℕ) → AtMost xs ps → sum xs ≡ amount ps → AllByRecursion (λ x. x.share ≡ x.size) (meet v s ps xs)
 meet_full v s [] xs h e = tt
 meet_full v s (p ∷ ps) [] h e = (omega arith, meet_full v s ps [] tt (omega arith))
-meet_full v s (p ∷ ps) (x ∷ xs) h e = let l = at_most_sum ps xs h.1 in let k = h.0 in (omega arith, meet_full v s ps xs h.1 (omega arith))
+meet_full v s (p ∷ ps) (x ∷ xs) h e = let l = at_most_amount ps xs h.1 in let k = h.0 in (omega arith, meet_full v s ps xs h.1 (omega arith))
 
 meet_sum : (v : ℕ) (s : Step) (ps : List Part) (xs : List ℕ) → AtMost xs ps → sum_of (λ x. x.share) (meet v s ps xs) ≡ sum xs
 meet_sum v s [] [] h = refl
@@ -229,9 +224,5 @@ module _ (rank : Ranking) (O : TotalOrder rank.good) where
       (All-weaker (λ y. (y.share ≤ c.0) × AllByRecursion (Right s table y) (reached gs)) (λ y. AllByRecursion (Right s table y) (here ++ reached gs)) later (reached gs) (all_both (λ y. y.share ≤ c.0) (λ y. AllByRecursion (Right s table y) (reached gs)) (reached gs) small ih))
     where
       front : (s : Side) (table : List Step) (y : Reached) (m : ℕ) (here : List Reached) → y.share ≤ m → (0 < m → AllByRecursion (λ x. x.share ≡ x.size) here) → AllByRecursion (Right s table y) here
-      front s table y zero here h full = every here
-        where
-          every : (xs : List Reached) → AllByRecursion (Right s table y) xs
-          every [] = tt
-          every (x ∷ xs) = ((λ b some. (let no_way : ⊥ = omega arith in absurd no_way)), every xs)
+      front s table y zero here h full = always_by (Right s table y) (λ x b some. (let no_way : ⊥ = omega arith in absurd no_way)) here
       front s table y (suc m) here h full = All-weaker (λ x. x.share ≡ x.size) (Right s table y) (λ x e b some. e) here (full (omega arith))

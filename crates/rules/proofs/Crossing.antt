@@ -37,16 +37,16 @@ mets_append (g ∷ gs) hs = rw (mets_append gs hs) (sym (append_assoc (meet g.pr
 
 -- ## The steps at one price
 
-step_eq : (s t : Step) → same_step s t ≡ true → s ≡ t
-step_eq Step.Setter Step.Setter h = refl
-step_eq Step.Setter Step.Displayed h = absurd (false≢true h)
-step_eq Step.Setter Step.Hidden h = absurd (false≢true h)
-step_eq Step.Displayed Step.Setter h = absurd (false≢true h)
-step_eq Step.Displayed Step.Displayed h = refl
-step_eq Step.Displayed Step.Hidden h = absurd (false≢true h)
-step_eq Step.Hidden Step.Setter h = absurd (false≢true h)
-step_eq Step.Hidden Step.Displayed h = absurd (false≢true h)
-step_eq Step.Hidden Step.Hidden h = refl
+pub same_step_is : (s t : Step) → same_step s t ≡ true → s ≡ t
+same_step_is Step.Setter Step.Setter h = refl
+same_step_is Step.Setter Step.Displayed h = absurd (false≢true h)
+same_step_is Step.Setter Step.Hidden h = absurd (false≢true h)
+same_step_is Step.Displayed Step.Setter h = absurd (false≢true h)
+same_step_is Step.Displayed Step.Displayed h = refl
+same_step_is Step.Displayed Step.Hidden h = absurd (false≢true h)
+same_step_is Step.Hidden Step.Setter h = absurd (false≢true h)
+same_step_is Step.Hidden Step.Displayed h = absurd (false≢true h)
+same_step_is Step.Hidden Step.Hidden h = refl
 
 -- the steps of groups rise, and are the table's
 abbrev Rising : List Step → List Group → Type 0
@@ -59,7 +59,7 @@ apart s ss x h k = go (same_step s x) refl
   where
     go : (t : Bool) → same_step s x ≡ t → t ≡ false
     go false e = refl
-    go true e = let same : s ≡ x = step_eq s x e in absurd (false≢true (sym (subst (λ y. has_step y ss ≡ false) same h) ∙ k))
+    go true e = let same : s ≡ x = same_step_is s x e in absurd (false≢true (sym (subst (λ y. has_step y ss ≡ false) same h) ∙ k))
 
 self : (s : Step) → same_step s s ≡ true
 self Step.Setter = refl

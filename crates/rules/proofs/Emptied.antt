@@ -16,17 +16,14 @@ use Rattle.rules.specs.LeadLaw.{queue_in}
 use Rattle.rules.specs.Invariants.{SoundLevel}
 use Rattle.rules.proofs.Amounts.{AtMost}
 use Rattle.rules.proofs.Trades.{fair_shares, with_good}
-use Rattle.rules.proofs.Stages.{amount, Stage, deal_stage}
+use Rattle.rules.proofs.Stages.{amount, at_most_amount, Stage, deal_stage}
+use Rattle.rules.proofs.Crossing.{same_step_is}
+use Rattle.rules.proofs.Members.{always}
 use Rattle.rules.proofs.Walks.{after_step, each_price, Held}
 
 no_amount : (ps : List Part) → AllByRecursion (λ p. 0 < p.quantity) ps → amount ps ≡ 0 → ps ≡ []
 no_amount [] pos h = refl
 no_amount (p ∷ ps) pos h = let no_way : ⊥ = omega (arith, pos.0) in absurd no_way
-
-at_most_amount : (ps : List Part) (xs : List ℕ) → AtMost xs ps → sum xs ≤ amount ps
-at_most_amount ps [] h = omega arith
-at_most_amount [] (x ∷ xs) h = absurd h
-at_most_amount (p ∷ ps) (x ∷ xs) h = omega (arith, h.0, at_most_amount ps xs h.1)
 
 -- parts that lose all they have are gone
 all_lost : (ps : List Part) (xs : List ℕ) → AllByRecursion (λ p. 0 < p.quantity) ps → AtMost xs ps → sum xs ≡ amount ps → lowered ps xs ≡ []
@@ -71,14 +68,6 @@ module _ (deal : Deal) (D : Lawful deal) (lot a : ℕ) where
       let d : Dealt = step_shares deal lot q s l in
       omega (arith, price_left ss (q - sum d.shares) (after_step s d.shares d.wheel l))
 
-  same_own : (c : Category) (s : Step) → same_step s (step_of c) ≡ true → s ≡ step_of c
-  same_own Category.Displayed Step.Setter h = absurd (false≢true h)
-  same_own Category.Displayed Step.Displayed h = refl
-  same_own Category.Displayed Step.Hidden h = absurd (false≢true h)
-  same_own Category.Hidden Step.Setter h = absurd (false≢true h)
-  same_own Category.Hidden Step.Displayed h = absurd (false≢true h)
-  same_own Category.Hidden Step.Hidden h = refl
-
   price_emptied : (c : Category) (ss : List Step) (q : ℕ) (l : Level) → SoundLevel lot l → has_step (step_of c) ss ≡ true → 0 < (trade_price deal lot a ss q l).left → (queue_in c (trade_price deal lot a ss q l).rest).parts ≡ []
   unfolding trade_price
   price_emptied c [] q l g h some = absurd (false≢true h)
@@ -95,7 +84,7 @@ module _ (deal : Deal) (D : Lawful deal) (lot a : ℕ) where
           → (queue_in c (trade_price deal lot a ss (q - sum d.shares) m).rest).parts ≡ []
       go true e h ih =
           let own : (queue_in c m).parts ≡ [] =
-          subst (λ s. (let d : Dealt = step_shares deal lot q s l in 0 < q - sum d.shares → (queue_in c (after_step s d.shares d.wheel l)).parts ≡ [])) (sym (same_own c s e)) (own_step c q l g) (omega (arith, price_left ss (q - sum d.shares) m)) in
+          subst (λ s. (let d : Dealt = step_shares deal lot q s l in 0 < q - sum d.shares → (queue_in c (after_step s d.shares d.wheel l)).parts ≡ [])) (sym (same_step_is s (step_of c) e)) (own_step c q l g) (omega (arith, price_left ss (q - sum d.shares) m)) in
           each_price (λ l. (queue_in c l).parts ≡ []) (gone_step c) deal lot a ss (q - sum d.shares) m own
       go false e h ih = ih h some
 
@@ -117,10 +106,6 @@ module _ (deal : Deal) (D : Lawful deal) (lot a : ℕ) where
       let r : Traded Level = trade_reached deal lot a ss (reaches l.price) q l in
       (here (reaches l.price) refl (omega (arith, side_left ss reaches r.left ls)), side_emptied ss hd hh reaches r.left ls g.1 some)
     where
-      everyone : (X : Type 0) (ps : List Part) → X → AllByRecursion (λ (_ : Part). X) ps
-      everyone X [] x = tt
-      everyone X (p ∷ ps) x = (x, everyone X ps x)
-
       nobody : (X : Type 0) (ps : List Part) → ps ≡ [] → AllByRecursion (λ (_ : Part). X) ps
       nobody X ps e = subst (λ ps. AllByRecursion (λ (_ : Part). X) ps) (sym e) tt
 
@@ -129,4 +114,4 @@ module _ (deal : Deal) (D : Lawful deal) (lot a : ℕ) where
         nobody (reaches (trade_price deal lot a ss q l).rest.price ≡ false) (trade_price deal lot a ss q l).rest.shown.parts (price_emptied Category.Displayed ss q l g.0 hd left),
         nobody (reaches (trade_price deal lot a ss q l).rest.price ≡ false) (trade_price deal lot a ss q l).rest.hidden.parts (price_emptied Category.Hidden ss q l g.0 hh left),
       )
-      here false e left = (everyone (reaches l.price ≡ false) l.shown.parts e, everyone (reaches l.price ≡ false) l.hidden.parts e)
+      here false e left = (always (reaches l.price ≡ false) l.shown.parts e, always (reaches l.price ≡ false) l.hidden.parts e)

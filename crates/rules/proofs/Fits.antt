@@ -1,7 +1,6 @@
 -- Every call keeps a book fit, and what an order had is in the rows or rests. Assumes nothing.
 use Rattle.std.proofs.Common.{◌≡◌, ℕ, ◌+◌, ◌-◌, ◌<◌, min, Bool, true, false, cond, eqb, List, [], ◌∷◌, fold, sym, refl, ap, ◌∙◌, subst, arith}
 use Rattle.std.specs.List.{AllByRecursion}
-use Rattle.std.proofs.lemmas.Bool.{eqb-true, eqb-false}
 use Rattle.allocation.specs.Dealings.{Deal, Lawful}
 use Rattle.rules.specs.declared.orders.Side.{Side}
 use Rattle.rules.specs.declared.orders.Side.TheVariants.{Buy, Sell}
@@ -11,12 +10,12 @@ use Rattle.rules.specs.Lists.{has, Distinct, sum_of}
 use Rattle.rules.specs.Books.{Book, side, Level, with_side, Ranking, other}
 use Rattle.rules.specs.Quantities.{of_side, resting, of_level}
 use Rattle.rules.specs.Changes.{on_price, put_shown, put_hidden}
-use Rattle.rules.specs.Marks.{earns_mark}
 use Rattle.rules.specs.Trading.{Traded, in_reach, trade_side}
-use Rattle.rules.specs.Reserve.{on, is_reserve, replenish_order, replenish, join_hidden, hidden_of, show_anew}
+use Rattle.rules.specs.Reserve.{on, is_reserve, replenish_order, replenish, join_hidden, show_anew}
 use Rattle.rules.specs.Refusals.{rests}
 use Rattle.rules.specs.Entering.{place, shown_part, hidden_part, two_parts, arrived, trade}
 use Rattle.rules.specs.Invariants.{SoundLevel, numbers}
+use Rattle.rules.proofs.Renewed.{renewed_by, two_parts_by}
 use Rattle.rules.proofs.Queues.{put_sound, put_of}
 use Rattle.rules.proofs.Levels.{on_price_good, on_price_of, join_hidden_good, join_hidden_of, show_anew_good, show_anew_of}
 use Rattle.rules.proofs.Trades.{as_resting, Even, trade_side_good, trade_side_even}
@@ -58,40 +57,19 @@ abbrev pub Displays : Order → Type 0
 Displays e = is_reserve e.kind ≡ true → 0 < e.display
 
 pub replenish_order_fit : (rank : Ranking) (lot : ℕ) (b : Book) (e : Order) → 0 < lot → Displays e → Sides lot b → Sides lot (replenish_order rank b e)
-unfolding replenish_order
-replenish_order_fit rank lot b e pos ok fit = go (is_reserve e.kind) refl
-  where
-    c : Book
-    c = on rank e (join_hidden b.lot e.number) b
-
-    mark : Bool
-    mark = earns_mark rank e.side e.price (min e.display (hidden_of e.number (side e.side c))) c
-
-    c_fit : Sides lot c
-    c_fit = on_fit rank e lot (join_hidden b.lot e.number) b pos (λ l g. subst (λ k. SoundLevel lot (join_hidden k e.number l)) (sym fit.is) (join_hidden_good lot e.number l g)) fit
-
-    go : (t : Bool) → is_reserve e.kind ≡ t → Sides lot (cond t (on rank e (show_anew b.lot e mark) c) b)
-    go true r = on_fit rank e lot (show_anew b.lot e mark) c pos (λ l g. subst (λ k. SoundLevel lot (show_anew k e mark l)) (sym fit.is) (show_anew_good lot e mark l (ok r) g)) c_fit
-    go false r = fit
+replenish_order_fit rank lot b e pos ok fit =
+    renewed_by (Sides lot) rank b e fit (λ mark r.
+    on_fit rank e lot (show_anew b.lot e mark) _ pos (λ l g. subst (λ k. SoundLevel lot (show_anew k e mark l)) (sym fit.is) (show_anew_good lot e mark l (ok r) g))
+    (on_fit rank e lot (join_hidden b.lot e.number) b pos (λ l g. subst (λ k. SoundLevel lot (join_hidden k e.number l)) (sym fit.is) (join_hidden_good lot e.number l g)) fit))
 
 replenish_order_rest : (rank : Ranking) (n : ℕ) (b : Book) (e : Order) → resting n (replenish_order rank b e) ≡ resting n b
-unfolding replenish_order
-replenish_order_rest rank n b e = go (is_reserve e.kind)
-  where
-    c : Book
-    c = on rank e (join_hidden b.lot e.number) b
-
-    mark : Bool
-    mark = earns_mark rank e.side e.price (min e.display (hidden_of e.number (side e.side c))) c
-
-    go : (t : Bool) → resting n (cond t (on rank e (show_anew b.lot e mark) c) b) ≡ resting n b
-    go true =
-        omega (
-          arith,
-          on_rest rank e n 0 (join_hidden b.lot e.number) b (λ l. omega (arith, join_hidden_of n b.lot e.number l)),
-          on_rest rank e n 0 (show_anew b.lot e mark) c (λ l. omega (arith, show_anew_of n b.lot e mark l)),
-        )
-    go false = refl
+replenish_order_rest rank n b e =
+    renewed_by (λ c. resting n c ≡ resting n b) rank b e refl (λ mark _.
+    omega (
+      arith,
+      on_rest rank e n 0 (join_hidden b.lot e.number) b (λ l. omega (arith, join_hidden_of n b.lot e.number l)),
+      on_rest rank e n 0 (show_anew b.lot e mark) (on rank e (join_hidden b.lot e.number) b) (λ l. omega (arith, show_anew_of n b.lot e mark l)),
+    ))
 
 -- what replenishing leaves alone
 pub record Same (b c : Book) : Type 0 where
@@ -100,18 +78,7 @@ pub record Same (b c : Book) : Type 0 where
   pub steps : c.steps ≡ b.steps
 
 replenish_order_same : (rank : Ranking) (b : Book) (e : Order) → Same b (replenish_order rank b e)
-unfolding replenish_order
-replenish_order_same rank b e = go (is_reserve e.kind)
-  where
-    c : Book
-    c = on rank e (join_hidden b.lot e.number) b
-
-    mark : Bool
-    mark = earns_mark rank e.side e.price (min e.display (hidden_of e.number (side e.side c))) c
-
-    go : (t : Bool) → Same b (cond t (on rank e (show_anew b.lot e mark) c) b)
-    go true = record { orders = refl; last = refl; steps = refl }
-    go false = record { orders = refl; last = refl; steps = refl }
+replenish_order_same rank b e = renewed_by (Same b) rank b e (record { orders = refl; last = refl; steps = refl }) (λ mark _. record { orders = refl; last = refl; steps = refl })
 
 pub all_renewed : (rank : Ranking) (lot : ℕ) (b : Book) (es : List Order) → 0 < lot → AllByRecursion Displays es → Sides lot b → Sides lot (fold (replenish_order rank) b es)
 all_renewed rank lot b [] pos ok fit = fit
@@ -136,21 +103,10 @@ place_fit rank lot Kind.Limit e n b pos some ok fit = on_fit rank e lot (put_sho
 place_fit rank lot Kind.Hidden e n b pos some ok fit = on_fit rank e lot (put_hidden (hidden_part e n)) b pos (λ l g. (g.0, put_sound lot (hidden_part e n) l.hidden g.1 some)) fit
 place_fit rank lot Kind.Reserve e n b pos some ok fit = on_fit rank e lot (two_parts rank b e n) b pos two fit
   where
-    d : ℕ
-    d = min e.display n
-
     two : (l : Level) → SoundLevel lot l → SoundLevel lot (two_parts rank b e n l)
-    two l g = go (eqb (n - d) 0) refl
-      where
-        s : Level
-        s = put_shown (shown_part rank b e d) l
-
-        s_good : SoundLevel lot s
-        s_good = (put_sound lot (shown_part rank b e d) l.shown g.0 (omega (arith, ok refl)), g.1)
-
-        go : (t : Bool) → eqb (n - d) 0 ≡ t → SoundLevel lot (cond t s (put_hidden (hidden_part e (n - d)) s))
-        go true z = s_good
-        go false z = (s_good.0, put_sound lot (hidden_part e (n - d)) s.hidden s_good.1 (omega (arith, eqb-false (n - d) 0 z)))
+    two l g =
+        let shown : SoundLevel lot (put_shown (shown_part rank b e (min e.display n)) l) = (put_sound lot (shown_part rank b e (min e.display n)) l.shown g.0 (omega (arith, ok refl)), g.1) in
+        two_parts_by (SoundLevel lot) rank b e n l (λ _. shown) (λ left. (shown.0, put_sound lot (hidden_part e (n - min e.display n)) l.hidden shown.1 left))
 place_fit rank lot Kind.Immediate e n b pos some ok fit = fit
 place_fit rank lot Kind.Market e n b pos some ok fit = fit
 
@@ -160,18 +116,11 @@ place_rest rank Kind.Limit e n m b r = on_rest rank e m (cond (eqb e.number m) n
 place_rest rank Kind.Hidden e n m b r = on_rest rank e m (cond (eqb e.number m) n 0) (put_hidden (hidden_part e n)) b (λ l. omega (arith, put_of m (hidden_part e n) l.hidden))
 place_rest rank Kind.Reserve e n m b r = on_rest rank e m (cond (eqb e.number m) n 0) (two_parts rank b e n) b two
   where
-    d : ℕ
-    d = min e.display n
-
     two : (l : Level) → of_level m (two_parts rank b e n l) ≡ of_level m l + cond (eqb e.number m) n 0
-    two l = go (eqb (n - d) 0) refl
-      where
-        s : Level
-        s = put_shown (shown_part rank b e d) l
-
-        go : (t : Bool) → eqb (n - d) 0 ≡ t → of_level m (cond t s (put_hidden (hidden_part e (n - d)) s)) ≡ of_level m l + cond (eqb e.number m) n 0
-        go true z = let a = put_of m (shown_part rank b e d) l.shown in let y = eqb-true (n - d) 0 z in grind arith
-        go false z = let a = put_of m (shown_part rank b e d) l.shown in let c = put_of m (hidden_part e (n - d)) l.hidden in grind arith
+    two l =
+        let a = put_of m (shown_part rank b e (min e.display n)) l.shown in
+        let c = put_of m (hidden_part e (n - min e.display n)) l.hidden in
+        two_parts_by (λ k. of_level m k ≡ of_level m l + cond (eqb e.number m) n 0) rank b e n l (λ none. grind arith) (λ left. grind arith)
 place_rest rank Kind.Immediate e n m b r = absurd (mathlib.Core.Bool.false≢true r)
 place_rest rank Kind.Market e n m b r = absurd (mathlib.Core.Bool.false≢true r)
 

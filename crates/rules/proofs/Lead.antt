@@ -1,5 +1,5 @@
 -- The lead law. Assumes nothing.
-use Rattle.std.proofs.Common.{◌≡◌, ℕ, ◌+◌, ◌-◌, ◌<◌, ◌≤◌, Bool, true, false, cond, eqb, ◌⊎◌, List, [], ◌∷◌, Some, None, filter, Option, refl, ap, ◌∙◌, subst, inl, inr, arith}
+use Rattle.std.proofs.Common.{◌≡◌, ℕ, ◌+◌, ◌-◌, ◌<◌, ◌≤◌, Bool, cond, ◌⊎◌, List, [], ◌∷◌, Some, None, filter, Option, refl, ap, ◌∙◌, subst, inl, inr, arith}
 use Rattle.std.specs.List.{AllByRecursion}
 use Rattle.std.proofs.lemmas.Bool.{cases_eq}
 use Rattle.allocation.specs.Rankings.{TotalOrder}
@@ -12,8 +12,6 @@ use Rattle.rules.specs.declared.phases.Step.{Step}
 use Rattle.rules.specs.declared.calls.Call.{Call}
 use Rattle.rules.specs.declared.calls.Call.TheVariants.{Open, Halt, Resume, Close, Quote, Enter, Cancel, Reduce}
 use Rattle.rules.specs.declared.answers.Refusal.{Refusal}
-use Rattle.rules.specs.declared.orders.Order.{Order}
-use Rattle.rules.specs.declared.answers.Row.{Row}
 use Rattle.rules.specs.Codes.{answer_number}
 use Rattle.rules.specs.Lists.{sum_of}
 use Rattle.rules.specs.Books.{side, Book, Ranking, good, Level, with_sides, with_phase, nothing_at}
@@ -21,15 +19,14 @@ use Rattle.rules.specs.Quantities.{resting, of_side}
 use Rattle.rules.specs.Marks.{unmarked}
 use Rattle.rules.specs.TakingOff.{take_off_side, take_off, take_off_level}
 use Rattle.rules.specs.Refusals.{first, refusals, next_phase, phase_after}
-use Rattle.rules.specs.Trading.{Traded}
-use Rattle.rules.specs.Entering.{Outcome, finished, trade, arrived, not_placed, enter}
+use Rattle.rules.specs.Entering.{Outcome}
 use Rattle.rules.specs.Rules.{tidy, holds, effect, rule, ruled, new_with}
 use Rattle.rules.specs.Runs.{run, Ask, Event, final}
 use Rattle.rules.specs.Tables.{GoodTable}
 use Rattle.rules.specs.LeadLaw.{level_at, older, queue_in, faces, gained, trades_on, deals_on, Spot, Keeps, dealt_to, queue_at, NobodyLeadsByMoreThanALot}
 use Rattle.rules.specs.Invariants.{SoundLevel}
 use Rattle.rules.proofs.Fits.{side_good}
-use Rattle.rules.proofs.Rulings.{rule_did}
+use Rattle.rules.proofs.Rulings.{effect_number, rule_did}
 use Rattle.allocation.proofs.Slack.{slack_of, slack_le}
 use Rattle.rules.proofs.Ranked.{effect_ranked}
 use Rattle.rules.proofs.Leads.{lose_slack}
@@ -115,22 +112,6 @@ module _ (rank : Ranking) (O : TotalOrder rank.good) (lot : ℕ) where
   none_older c p Category.Displayed v h = omega arith
   none_older c p Category.Hidden v h = omega arith
 
-  ended : (t u : Bool) (e : Order) (n : ℕ) (rs : List Row) (b : Book) → answer_number (finished t u rank e n rs b).answer ≡ 0
-  ended true u e n rs b = refl
-  ended false true e n rs b = refl
-  ended false false e n rs b = refl
-
-  accepted : (b : Book) (c : Call) → answer_number (effect rank parity b c).answer ≡ 0
-  unfolding effect enter
-  accepted b Open = refl
-  accepted b Halt = refl
-  accepted b Resume = refl
-  accepted b Close = refl
-  accepted b (Quote x y) = refl
-  accepted b (Enter e) = let r : Traded Book = trade rank parity e (arrived e b) in ended (eqb r.left 0) (not_placed rank b e) e r.left r.rows r.rest
-  accepted b (Cancel n) = refl
-  accepted b (Reduce n m) = refl
-
   rule_lead : (p r : ℕ) → (p ≡ r → ⊥) → (cat : Category) (s : Side) (v : ℕ) (b : Book) (room : ℕ) (c : Call) → Kept rank O lot b
       → (let d : Outcome = rule rank parity b room c in let t : Bool = faces s c in
       cond t (sum_of (gained (trades_on cat) v b.orders p) d.rows) 0 < has_int cat p (level_at v (side s b))
@@ -152,7 +133,7 @@ module _ (rank : Ranking) (O : TotalOrder rank.good) (lot : ℕ) where
           let x : Book = d.book in
           let at : side s (tidy (with_phase ph x)) ≡ filter holds (side s x) = tidy_side s (with_phase ph x) ∙ ap (filter holds) (phase_side s ph x) in
           let P : Level → Type 0 = λ m. 0 < older c p (queue_in cat m).parts in
-          let h : P (level_at v (filter holds (side s x))) = subst (λ ls. P (level_at v ls)) at (after (accepted b c)) in
+          let h : P (level_at v (filter holds (side s x))) = subst (λ ls. P (level_at v ls)) at (after (effect_number rank parity parity_lawful lot b c)) in
           let same : level_at v (filter holds (side s x)) ≡ level_at v (side s x) = kept_at P holds v (side s x) (once_at rank O lot s x (effect_ranked rank O parity b c (ranked rank O lot b k))) (none_older c p cat v) h in
           let to : level_at v (side s (tidy (with_phase ph x))) ≡ level_at v (side s x) = ap (level_at v) at ∙ same in
           let main = effect_lead p r ne cat s v b c k some (subst P same h) in

@@ -25,6 +25,7 @@ use Rattle.rules.specs.Reserve.{on, replenish, replenish_order}
 use Rattle.rules.specs.Entering.{trade, arrived, two_parts, shown_part, hidden_part, place, with_order, finished, enter, Outcome, not_placed}
 use Rattle.rules.specs.LeadLaw.{older, arrives, gained, trades_on, deals_on, level_at, queue_in}
 use Rattle.rules.specs.Invariants.{SoundBook, prices}
+use Rattle.rules.proofs.Renewed.{two_parts_by}
 use Rattle.rules.proofs.Fits.{Sides, Fit, side_good}
 use Rattle.rules.proofs.Members.{sum_of_append}
 use Rattle.rules.proofs.Ranked.{Ranked, sorted_side, two_still}
@@ -60,15 +61,15 @@ with_other Sell Sell ls b h = absurd (false≢true (sym h))
 
 -- ## Older interest
 
+older_more : (t u : Bool) (q older all : ℕ) → older ≤ all → cond (not t && u) q 0 + older ≤ cond u q 0 + all
+older_more true true q older all h = omega arith
+older_more true false q older all h = omega arith
+older_more false true q older all h = omega arith
+older_more false false q older all h = omega arith
+
 pub older_less : (c : Call) (p : ℕ) (ps : List Part) → older c p ps ≤ interest p (claims ps)
 older_less c p [] = omega arith
-older_less c p (x ∷ ps) = go (arrives c x.order) (eqb p x.participant) (older_less c p ps)
-  where
-    go : (t u : Bool) → older c p ps ≤ interest p (claims ps) → cond (not t && u) x.quantity 0 + older c p ps ≤ cond u x.quantity 0 + interest p (claims ps)
-    go true true h = omega arith
-    go true false h = omega arith
-    go false true h = omega arith
-    go false false h = omega arith
+older_less c p (x ∷ ps) = older_more (arrives c x.order) (eqb p x.participant) x.quantity _ _ (older_less c p ps)
 
 older_push : (e : Order) (p : ℕ) (x : Part) (k : Queue) → x.order ≡ e.number → older (Enter e) p (put x k).parts ≤ interest p (claims k.parts)
 unfolding put
@@ -76,13 +77,7 @@ older_push e p x k same = push k.parts
   where
     push : (ps : List Part) → older (Enter e) p (ps ++ (x ∷ [])) ≤ interest p (claims ps)
     push [] = let z = eq-eqb e.number x.order (sym same) in grind arith
-    push (y ∷ ps) = let ih = push ps in go (eqb e.number y.order) (eqb p y.participant) ih
-      where
-        go : (t u : Bool) → older (Enter e) p (ps ++ (x ∷ [])) ≤ interest p (claims ps) → cond (not t && u) y.quantity 0 + older (Enter e) p (ps ++ (x ∷ [])) ≤ cond u y.quantity 0 + interest p (claims ps)
-        go true true h = omega arith
-        go true false h = omega arith
-        go false true h = omega arith
-        go false false h = omega arith
+    push (y ∷ ps) = older_more (eqb e.number y.order) (eqb p y.participant) y.quantity _ _ (push ps)
 
 module _ (rank : Ranking) (O : TotalOrder rank.good) (lot : ℕ) where
   -- a sound book with this round lot
@@ -180,19 +175,17 @@ module _ (rank : Ranking) (O : TotalOrder rank.good) (lot : ℕ) where
   old_hidden e p Category.Hidden x l o = older_push e p x l.hidden o
 
   old_two : (e : Order) (p : ℕ) (cat : Category) (b : Book) (n : ℕ) (l : Level) → Old e p cat l (two_parts rank b e n l)
-  old_two e p cat b n l = go cat (eqb (n - d) 0)
+  old_two e p cat b n l = two_parts_by (Old e p cat l) rank b e n l (λ _. shown cat) (λ _. both cat)
     where
       d : ℕ
       d = min e.display n
 
-      x : Part
-      x = shown_part rank b e d
+      shown : (cat : Category) → Old e p cat l (put_shown (shown_part rank b e d) l)
+      shown cat = old_shown e p cat (shown_part rank b e d) l refl
 
-      go : (cat : Category) (t : Bool) → Old e p cat l (cond t (put_shown x l) (put_hidden (hidden_part e (n - d)) (put_shown x l)))
-      go Category.Displayed true = older_push e p x l.shown refl
-      go Category.Displayed false = older_push e p x l.shown refl
-      go Category.Hidden true = old_self e p Category.Hidden l
-      go Category.Hidden false = older_push e p (hidden_part e (n - d)) l.hidden refl
+      both : (cat : Category) → Old e p cat l (put_hidden (hidden_part e (n - d)) (put_shown (shown_part rank b e d) l))
+      both Category.Displayed = shown Category.Displayed
+      both Category.Hidden = old_hidden e p Category.Hidden (hidden_part e (n - d)) l refl
 
   old_placed : (pos : 0 < lot) (p : ℕ) (cat : Category) (s : Side) (v : ℕ) (k : Kind) (e : Order) (n : ℕ) (b : Book) → Ranked rank O b → Old e p cat (level_at v (side s b)) (level_at v (side s (place rank k e n b)))
   unfolding place

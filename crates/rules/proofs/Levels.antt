@@ -1,5 +1,5 @@
 -- A side stays good, and what an order has on it: taking off, a change at one price, reserve. Assumes nothing.
-use Rattle.std.proofs.Common.{◌≡◌, ℕ, ◌+◌, ◌-◌, ◌<◌, min, Bool, true, false, cond, ◌&&◌, eqb, ltb, List, [], ◌∷◌, refl, arith}
+use Rattle.std.proofs.Common.{◌≡◌, ℕ, ◌+◌, ◌-◌, ◌<◌, min, Bool, true, false, cond, eqb, ltb, List, [], ◌∷◌, refl, arith}
 use Rattle.std.specs.List.{AllByRecursion}
 use Rattle.std.proofs.lemmas.Bool.{ltb-true, and_parts}
 use Rattle.std.proofs.lemmas.Bool.Decides.{nat_tests}
@@ -9,12 +9,13 @@ use Rattle.rules.specs.declared.orders.Side.{Side}
 use Rattle.rules.specs.declared.orders.Order.{Order}
 use Rattle.rules.specs.declared.orders.Part.{Part}
 use Rattle.rules.specs.Lists.{last_alone}
-use Rattle.rules.specs.Books.{good, Level, level, nothing_at, Ranking, part, Queue, queue}
+use Rattle.rules.specs.Books.{good, Level, nothing_at, Ranking, part, Queue, queue}
 use Rattle.rules.specs.Quantities.{of_level, of_side, claims, of_order, pieces}
-use Rattle.rules.specs.Changes.{on_price, lose, put}
+use Rattle.rules.specs.Changes.{on_price}
 use Rattle.rules.specs.TakingOff.{take_off_side}
 use Rattle.rules.specs.Reserve.{raised, join_hidden, runs_low, shows_two, show_anew}
 use Rattle.rules.specs.Invariants.{SoundLevel, SoundQueue}
+use Rattle.rules.proofs.Renewed.{joined_by, anew_by}
 use Rattle.rules.proofs.Seats.{nobody_seated}
 use Rattle.allocation.proofs.InOrder.{in_order_under, sum_in_order}
 use Rattle.rules.proofs.Queues.{last_under, sum_pieces, lose_sound, lose_of, put_sound, put_of, take_off_level_good, take_off_level_of}
@@ -93,64 +94,38 @@ raised_of k n m (p ∷ ps) h = go (eqb p.order n) refl h (raised_of k n m ps)
     go false e h ih = omega (arith, ih (omega arith))
 
 pub join_hidden_good : (lot n : ℕ) (l : Level) → SoundLevel lot l → SoundLevel lot (join_hidden lot n l)
-unfolding join_hidden
-join_hidden_good lot n l g = go (runs_low lot n l && shows_two n l)
-  where
-    xs : List ℕ
-    xs = last_alone (pieces n l.shown.parts)
-
-    go : (t : Bool) → SoundLevel lot (cond t (level l.price (lose xs l.shown) (queue (raised n (sum xs) l.hidden.parts) l.hidden.wheel)) l)
-    go true = (lose_sound lot xs l.shown g.0, raised_sound lot n (sum xs) l.hidden g.1)
-    go false = g
+join_hidden_good lot n l g =
+    let xs : List ℕ = last_alone (pieces n l.shown.parts) in
+    joined_by (SoundLevel lot) lot n l g (λ _. (lose_sound lot xs l.shown g.0, raised_sound lot n (sum xs) l.hidden g.1))
 
 pub low_hides : (lot n : ℕ) (l : Level) → runs_low lot n l ≡ true → 0 < of_order n l.hidden.parts
 low_hides lot n l e = ltb-true 0 (of_order n l.hidden.parts) (and_parts (ltb (of_order n l.shown.parts) lot) (ltb 0 (of_order n l.hidden.parts)) e).1
 
 pub join_hidden_of : (k lot n : ℕ) (l : Level) → of_level k (join_hidden lot n l) ≡ of_level k l
-unfolding join_hidden
-join_hidden_of k lot n l = go (runs_low lot n l && shows_two n l) refl
-  where
-    xs : List ℕ
-    xs = last_alone (pieces n l.shown.parts)
-
-    go : (t : Bool) → (runs_low lot n l && shows_two n l) ≡ t → of_level k (cond t (level l.price (lose xs l.shown) (queue (raised n (sum xs) l.hidden.parts) l.hidden.wheel)) l) ≡ of_level k l
-    go true e =
-        omega (
-          arith,
-          lose_of k n xs l.shown (last_under (pieces n l.shown.parts)),
-          raised_of k n (sum xs) l.hidden.parts (low_hides lot n l (and_parts (runs_low lot n l) (shows_two n l) e).0),
-        )
-    go false e = refl
+join_hidden_of k lot n l =
+    let xs : List ℕ = last_alone (pieces n l.shown.parts) in
+    joined_by (λ m. of_level k m ≡ of_level k l) lot n l refl (λ e.
+    omega (
+      arith,
+      lose_of k n xs l.shown (last_under (pieces n l.shown.parts)),
+      raised_of k n (sum xs) l.hidden.parts (low_hides lot n l (and_parts (runs_low lot n l) (shows_two n l) e).0),
+    ))
 
 pub show_anew_good : (lot : ℕ) (e : Order) (mark : Bool) (l : Level) → 0 < e.display → SoundLevel lot l → SoundLevel lot (show_anew lot e mark l)
-unfolding show_anew
-show_anew_good lot e mark l pos g = go (runs_low lot e.number l) refl
-  where
-    n : ℕ
-    n = min e.display (of_order e.number l.hidden.parts)
-
-    go : (t : Bool) → runs_low lot e.number l ≡ t → SoundLevel lot (cond t (level l.price (put (part e.number e.participant n mark) l.shown) (lose (shares_in_order n (pieces e.number l.hidden.parts)) l.hidden)) l)
-    go true r = (
-      put_sound lot (part e.number e.participant n mark) l.shown g.0 (omega (arith, low_hides lot e.number l r)),
+show_anew_good lot e mark l pos g =
+    let n : ℕ = min e.display (of_order e.number l.hidden.parts) in
+    anew_by (SoundLevel lot) lot e mark l (λ _. g) (λ low. (
+      put_sound lot (part e.number e.participant n mark) l.shown g.0 (omega (arith, low_hides lot e.number l low)),
       lose_sound lot (shares_in_order n (pieces e.number l.hidden.parts)) l.hidden g.1,
-    )
-    go false r = g
+    ))
 
 pub show_anew_of : (k lot : ℕ) (e : Order) (mark : Bool) (l : Level) → of_level k (show_anew lot e mark l) ≡ of_level k l
-unfolding show_anew
-show_anew_of k lot e mark l = go (runs_low lot e.number l)
-  where
-    ps : List ℕ
-    ps = pieces e.number l.hidden.parts
-
-    n : ℕ
-    n = min e.display (of_order e.number l.hidden.parts)
-
-    go : (t : Bool) → of_level k (cond t (level l.price (put (part e.number e.participant n mark) l.shown) (lose (shares_in_order n ps) l.hidden)) l) ≡ of_level k l
-    go true =
-        let a = put_of k (part e.number e.participant n mark) l.shown in
-        let b = lose_of k e.number (shares_in_order n ps) l.hidden (in_order_under n ps) in
-        let c = sum_in_order n ps in
-        let d = sum_pieces e.number l.hidden.parts in
-        grind (arith, nat_tests)
-    go false = refl
+show_anew_of k lot e mark l =
+    let ps : List ℕ = pieces e.number l.hidden.parts in
+    let n : ℕ = min e.display (of_order e.number l.hidden.parts) in
+    anew_by (λ m. of_level k m ≡ of_level k l) lot e mark l (λ _. refl) (λ _.
+    (let a = put_of k (part e.number e.participant n mark) l.shown in
+    let b = lose_of k e.number (shares_in_order n ps) l.hidden (in_order_under n ps) in
+    let c = sum_in_order n ps in
+    let d = sum_pieces e.number l.hidden.parts in
+    grind (arith, nat_tests)))

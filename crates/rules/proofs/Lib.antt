@@ -3,6 +3,7 @@ pub mod Seats
 pub mod Amounts
 pub mod Queues
 pub mod Parts
+pub mod Renewed
 pub mod Levels
 pub mod Trades
 pub mod Fits

@@ -1,8 +1,8 @@
 -- When an order runs low at a price, and when it does not. Assumes nothing.
-use Rattle.std.proofs.Common.{◌≡◌, ℕ, zero, suc, ◌-◌, ◌<◌, ◌≤◌, min, Bool, true, false, cond, ◌&&◌, eqb, ltb, List, [], ◌∷◌, map, sym, refl, ap, ◌∙◌, subst, arith}
+use Rattle.std.proofs.Common.{◌≡◌, ℕ, zero, suc, ◌-◌, ◌<◌, ◌≤◌, min, Bool, true, false, ◌&&◌, eqb, ltb, List, [], ◌∷◌, map, sym, refl, ap, ◌∙◌, subst, arith}
 use mathlib.Core.Bool.{false≢true}
 use Rattle.std.proofs.lemmas.Bool.Decides.{nat_tests}
-use Rattle.std.proofs.lemmas.Bool.{eqb-true, eqb-false, eq-eqb, ltb-false, lt-ltb, le-ltb}
+use Rattle.std.proofs.lemmas.Bool.{eqb-true, eq-eqb, ltb-false, lt-ltb, le-ltb}
 use Rattle.allocation.specs.ByTime.{shares_in_order}
 use Rattle.allocation.specs.Dealings.{sum}
 use Rattle.rules.specs.declared.orders.Order.{Order}
@@ -12,9 +12,10 @@ use Rattle.rules.specs.Books.{Level, part, level, queue, Ranking, Book}
 use Rattle.rules.specs.Quantities.{pieces, of_order}
 use Rattle.rules.specs.Changes.{put, lose, put_shown, put_hidden}
 use Rattle.rules.specs.TakingOff.{take_off_level}
-use Rattle.rules.specs.Reserve.{runs_low, show_anew, raised, join_hidden, shows_two}
+use Rattle.rules.specs.Reserve.{runs_low, show_anew, raised, join_hidden}
 use Rattle.rules.specs.Entering.{two_parts, shown_part, hidden_part}
 use Rattle.allocation.proofs.InOrder.{in_order_under, sum_in_order}
+use Rattle.rules.proofs.Renewed.{joined_by, anew_by, two_parts_by}
 use Rattle.rules.proofs.Queues.{lose_of, put_of, last_under, sum_pieces, take_off_hidden_of, take_off_shown_of}
 use Rattle.rules.proofs.Effects.{unmark_of}
 
@@ -40,60 +41,36 @@ same_low lot s s' h h' a b = rw (a, b)
 -- ## Showing anew
 
 pub shown_anew_not_low : (lot : ℕ) (e : Order) (mark : Bool) (l : Level) → lot ≤ e.display → runs_low lot e.number (show_anew lot e mark l) ≡ false
-unfolding show_anew
-shown_anew_not_low lot e mark l enough = go (runs_low lot e.number l) refl
-  where
-    ps : List ℕ
-    ps = pieces e.number l.hidden.parts
-
-    q : ℕ
-    q = min e.display (of_order e.number l.hidden.parts)
-
-    go : (t : Bool) → runs_low lot e.number l ≡ t → runs_low lot e.number (cond t (level l.price (put (part e.number e.participant q mark) l.shown) (lose (shares_in_order q ps) l.hidden)) l) ≡ false
-    go true low =
-        let a = put_of e.number (part e.number e.participant q mark) l.shown in
-        let b = lose_of e.number e.number (shares_in_order q ps) l.hidden (in_order_under q ps) in
-        let c = sum_in_order q ps in
-        let d = sum_pieces e.number l.hidden.parts in
-        let z = eq-eqb e.number e.number refl in
-        let a' = rw z at a in
-        let b' = rw z at b in
-        not_low lot (of_order e.number (put (part e.number e.participant q mark) l.shown).parts) (of_order e.number (lose (shares_in_order q ps) l.hidden).parts) (λ some. omega arith)
-    go false low = low
+shown_anew_not_low lot e mark l enough =
+    let ps : List ℕ = pieces e.number l.hidden.parts in
+    let q : ℕ = min e.display (of_order e.number l.hidden.parts) in
+    anew_by (λ m. runs_low lot e.number m ≡ false) lot e mark l (λ low. low) (λ low.
+    (let z = eq-eqb e.number e.number refl in
+    let a = rw z at (put_of e.number (part e.number e.participant q mark) l.shown) in
+    let b = rw z at (lose_of e.number e.number (shares_in_order q ps) l.hidden (in_order_under q ps)) in
+    let c = sum_in_order q ps in
+    let d = sum_pieces e.number l.hidden.parts in
+    not_low lot (of_order e.number (put (part e.number e.participant q mark) l.shown).parts) (of_order e.number (lose (shares_in_order q ps) l.hidden).parts) (λ some. omega arith)))
 
 pub shown_anew_other : (lot k i : ℕ) (e : Order) (mark : Bool) (l : Level) → eqb e.number k ≡ false → runs_low lot k (show_anew i e mark l) ≡ runs_low lot k l
-unfolding show_anew
-shown_anew_other lot k i e mark l ne = go (runs_low i e.number l)
-  where
-    ps : List ℕ
-    ps = pieces e.number l.hidden.parts
-
-    q : ℕ
-    q = min e.display (of_order e.number l.hidden.parts)
-
-    go : (t : Bool) → runs_low lot k (cond t (level l.price (put (part e.number e.participant q mark) l.shown) (lose (shares_in_order q ps) l.hidden)) l) ≡ runs_low lot k l
-    go true =
-        let a = rw ne at (put_of k (part e.number e.participant q mark) l.shown) in
-        let b = rw ne at (lose_of k e.number (shares_in_order q ps) l.hidden (in_order_under q ps)) in
-        same_low lot (of_order k l.shown.parts) (of_order k (put (part e.number e.participant q mark) l.shown).parts) (of_order k l.hidden.parts) (of_order k (lose (shares_in_order q ps) l.hidden).parts) (omega arith) (omega arith)
-    go false = refl
+shown_anew_other lot k i e mark l ne =
+    let ps : List ℕ = pieces e.number l.hidden.parts in
+    let q : ℕ = min e.display (of_order e.number l.hidden.parts) in
+    anew_by (λ m. runs_low lot k m ≡ runs_low lot k l) i e mark l (λ _. refl) (λ _.
+    (let a = rw ne at (put_of k (part e.number e.participant q mark) l.shown) in
+    let b = rw ne at (lose_of k e.number (shares_in_order q ps) l.hidden (in_order_under q ps)) in
+    same_low lot (of_order k l.shown.parts) (of_order k (put (part e.number e.participant q mark) l.shown).parts) (of_order k l.hidden.parts) (of_order k (lose (shares_in_order q ps) l.hidden).parts) (omega arith) (omega arith)))
 
 raised_other : (k n m : ℕ) (ps : List Part) → eqb n k ≡ false → of_order k (raised n m ps) ≡ of_order k ps
 raised_other k n m [] ne = refl
 raised_other k n m (p ∷ ps) ne = let ih = raised_other k n m ps ne in grind (arith, nat_tests)
 
 pub joined_other : (lot k i n : ℕ) (l : Level) → eqb n k ≡ false → runs_low lot k (join_hidden i n l) ≡ runs_low lot k l
-unfolding join_hidden
-joined_other lot k i n l ne = go (runs_low i n l && shows_two n l)
-  where
-    xs : List ℕ
-    xs = last_alone (pieces n l.shown.parts)
-
-    go : (t : Bool) → runs_low lot k (cond t (level l.price (lose xs l.shown) (queue (raised n (sum xs) l.hidden.parts) l.hidden.wheel)) l) ≡ runs_low lot k l
-    go true =
-        let a = rw ne at (lose_of k n xs l.shown (last_under (pieces n l.shown.parts))) in
-        same_low lot (of_order k l.shown.parts) (of_order k (lose xs l.shown).parts) (of_order k l.hidden.parts) (of_order k (raised n (sum xs) l.hidden.parts)) (omega arith) (raised_other k n (sum xs) l.hidden.parts ne)
-    go false = refl
+joined_other lot k i n l ne =
+    let xs : List ℕ = last_alone (pieces n l.shown.parts) in
+    joined_by (λ m. runs_low lot k m ≡ runs_low lot k l) i n l refl (λ _.
+    (let a = rw ne at (lose_of k n xs l.shown (last_under (pieces n l.shown.parts))) in
+    same_low lot (of_order k l.shown.parts) (of_order k (lose xs l.shown).parts) (of_order k l.hidden.parts) (of_order k (raised n (sum xs) l.hidden.parts)) (omega arith) (raised_other k n (sum xs) l.hidden.parts ne)))
 
 -- ## Taking off: the hidden part goes first
 
@@ -128,21 +105,13 @@ pub put_hidden_other : (lot k : ℕ) (x : Part) (l : Level) → eqb x.order k �
 put_hidden_other lot k x l ne = let a = rw ne at (put_of k x l.hidden) in same_low lot (of_order k l.shown.parts) (of_order k l.shown.parts) (of_order k l.hidden.parts) (of_order k (put x l.hidden).parts) refl (omega arith)
 
 pub two_parts_other : (rank : Ranking) (b : Book) (lot k : ℕ) (e : Order) (n : ℕ) (l : Level) → eqb e.number k ≡ false → runs_low lot k (two_parts rank b e n l) ≡ runs_low lot k l
-two_parts_other rank b lot k e n l ne = go (eqb (n - d) 0)
-  where
-    d : ℕ
-    d = min e.display n
-
-    x : Part
-    x = shown_part rank b e d
-
-    go : (t : Bool) → runs_low lot k (cond t (put_shown x l) (put_hidden (hidden_part e (n - d)) (put_shown x l))) ≡ runs_low lot k l
-    go true = put_shown_other lot k x l ne
-    go false = put_hidden_other lot k (hidden_part e (n - d)) (put_shown x l) ne ∙ put_shown_other lot k x l ne
+two_parts_other rank b lot k e n l ne =
+    let shown = put_shown_other lot k (shown_part rank b e (min e.display n)) l ne in
+    two_parts_by (λ m. runs_low lot k m ≡ runs_low lot k l) rank b e n l (λ _. shown) (λ _. put_hidden_other lot k (hidden_part e (n - min e.display n)) (put_shown (shown_part rank b e (min e.display n)) l) ne ∙ shown)
 
 -- a new reserve order
 pub two_parts_not_low : (rank : Ranking) (b : Book) (lot : ℕ) (e : Order) (n : ℕ) (l : Level) → lot ≤ e.display → of_order e.number l.hidden.parts ≡ 0 → runs_low lot e.number (two_parts rank b e n l) ≡ false
-two_parts_not_low rank b lot e n l enough none_hidden = go (eqb (n - d) 0) refl
+two_parts_not_low rank b lot e n l enough none_hidden = two_parts_by (λ m. runs_low lot e.number m ≡ false) rank b e n l one both
   where
     d : ℕ
     d = min e.display n
@@ -153,12 +122,10 @@ two_parts_not_low rank b lot e n l enough none_hidden = go (eqb (n - d) 0) refl
     y : Part
     y = hidden_part e (n - d)
 
-    z : eqb e.number e.number ≡ true
-    z = eq-eqb e.number e.number refl
+    one : n - d ≡ 0 → runs_low lot e.number (put_shown x l) ≡ false
+    one none = not_low lot (of_order e.number (put x l.shown).parts) (of_order e.number l.hidden.parts) (λ some. omega arith)
 
-    go : (t : Bool) → eqb (n - d) 0 ≡ t → runs_low lot e.number (cond t (put_shown x l) (put_hidden y (put_shown x l))) ≡ false
-    go true k = not_low lot (of_order e.number (put x l.shown).parts) (of_order e.number l.hidden.parts) (λ some. omega arith)
-    go false k =
-        let a = rw z at (put_of e.number x l.shown) in
-        let more = eqb-false (n - d) 0 k in
+    both : 0 < n - d → runs_low lot e.number (put_hidden y (put_shown x l)) ≡ false
+    both more =
+        let a = rw (eq-eqb e.number e.number refl) at (put_of e.number x l.shown) in
         not_low lot (of_order e.number (put x l.shown).parts) (of_order e.number (put y l.hidden).parts) (λ some. omega (arith, more))

@@ -15,6 +15,7 @@ use Rattle.rules.specs.Quantities.{of_order, of_side, of_level, resting}
 use Rattle.rules.specs.Reserve.{is_reserve}
 use Rattle.rules.specs.Refusals.{within}
 use Rattle.rules.specs.Invariants.{Rising, numbers, listed, Orderly, Admitted, SoundBook}
+use Rattle.rules.proofs.Members.{mapped_kept}
 use Rattle.rules.proofs.Fits.{Displays, Fit}
 use Rattle.rules.proofs.Rulings.{display_ok}
 use Rattle.rules.proofs.Listing.{listed_number}
@@ -31,20 +32,12 @@ pub rising_push : (last k : ℕ) (ns : List ℕ) → last < k → Rising last ns
 rising_push last k [] lt r = (omega arith, tt, tt)
 rising_push last k (n ∷ ns) lt r = (omega (arith, r.0), All-push (λ m. n < m) ns k r.1 (omega (arith, r.0)), rising_push last k ns lt r.2)
 
-all_numbers : (P : ℕ → Type 0) (g : Order → Bool) (es : List Order) → AllByRecursion P (numbers es) → AllByRecursion P (numbers (filter g es))
-all_numbers P g [] h = tt
-all_numbers P g (e ∷ es) h = go (g e) (all_numbers P g es h.1)
-  where
-    go : (t : Bool) → AllByRecursion P (numbers (filter g es)) → AllByRecursion P (numbers (cond t (e ∷ filter g es) (filter g es)))
-    go true ih = (h.0, ih)
-    go false ih = ih
-
 pub rising_kept : (last : ℕ) (g : Order → Bool) (es : List Order) → Rising last (numbers es) → Rising last (numbers (filter g es))
 rising_kept last g [] r = tt
 rising_kept last g (e ∷ es) r = go (g e) (rising_kept last g es r.2)
   where
     go : (t : Bool) → Rising last (numbers (filter g es)) → Rising last (numbers (cond t (e ∷ filter g es) (filter g es)))
-    go true ih = (r.0, all_numbers (λ m. e.number < m) g es r.1, ih)
+    go true ih = (r.0, mapped_kept (λ e. e.number) (λ m. e.number < m) g es r.1, ih)
     go false ih = ih
 
 above_unlisted : (n : ℕ) (ns : List ℕ) → AllByRecursion (λ m. n < m) ns → has n ns ≡ false

@@ -13,6 +13,7 @@ use Rattle.rules.specs.Quantities.{pieces, of_order}
 use Rattle.rules.specs.Changes.{lowered, lose, put}
 use Rattle.rules.specs.Reserve.{raised, runs_low, join_hidden, shows_two, show_anew}
 use Rattle.rules.specs.Invariants.{listed, OrderlyParts, Orderly, marked_parts, parts_of, SoundLevel}
+use Rattle.rules.proofs.Renewed.{joined_by, anew_by}
 use Rattle.rules.proofs.Parts.{Steady, all_lowered, raised_all, put_all, unmark_all, lowered_count, raised_count, put_count, last_gone, shows_one}
 
 -- ## Parts
@@ -87,15 +88,9 @@ LowShowsOne lot n l = runs_low lot n l ≡ true → parts_of n l.shown.parts ≤
 
 module _ (es : List Order) (s : Side) (lot n : ℕ) where
   pub orderly_joined : (l : Level) → SoundLevel lot l → Orderly es s l → Orderly es s (join_hidden lot n l)
-  unfolding join_hidden
-  orderly_joined l g o = go (runs_low lot n l && shows_two n l)
-    where
-      xs : List ℕ
-      xs = last_alone (pieces n l.shown.parts)
-
-      go : (t : Bool) → Orderly es s (cond t (level l.price (lose xs l.shown) (queue (raised n (sum xs) l.hidden.parts) l.hidden.wheel)) l)
-      go true = (orderly_lost es s l.price 1 2 xs l.shown o.0, orderly_raised es s l.price 0 1 n (sum xs) l.hidden.parts o.1)
-      go false = o
+  orderly_joined l g o =
+      let xs : List ℕ = last_alone (pieces n l.shown.parts) in
+      joined_by (Orderly es s) lot n l o (λ _. (orderly_lost es s l.price 1 2 xs l.shown o.0, orderly_raised es s l.price 0 1 n (sum xs) l.hidden.parts o.1))
 
   pub joined_shows_one : (l : Level) → SoundLevel lot l → Orderly es s l → LowShowsOne lot n (join_hidden lot n l)
   unfolding join_hidden lose
@@ -111,8 +106,7 @@ module _ (es : List Order) (s : Side) (lot n : ℕ) where
 
   pub orderly_shown_anew : (e : Order) (mark : Bool) (l : Level) → e.number ≡ n → ((m : ℕ) (t : Bool) → listed es s l.price (part e.number e.participant m t) ≡ true)
       → LowShowsOne lot n l → (mark ≡ true → marked_parts l.shown.parts ≡ 0) → Orderly es s l → Orderly es s (show_anew lot e mark l)
-  unfolding show_anew
-  orderly_shown_anew e mark l same own one clear o = go (runs_low lot e.number l) refl
+  orderly_shown_anew e mark l same own one clear o = anew_by (Orderly es s) lot e mark l (λ _. o) shows
     where
       q : ℕ
       q = min e.display (of_order e.number l.hidden.parts)
@@ -121,10 +115,9 @@ module _ (es : List Order) (s : Side) (lot n : ℕ) where
       marks true z = rw z (omega (arith, clear z))
       marks false z = rw z (omega (arith, o.0.marked))
 
-      go : (t : Bool) → runs_low lot e.number l ≡ t → Orderly es s (cond t (level l.price (put (part e.number e.participant q mark) l.shown) (lose (shares_in_order q (pieces e.number l.hidden.parts)) l.hidden)) l)
-      go true low =
+      shows : runs_low lot e.number l ≡ true → Orderly es s (level l.price (put (part e.number e.participant q mark) l.shown) (lose (shares_in_order q (pieces e.number l.hidden.parts)) l.hidden))
+      shows low =
           let few : parts_of n l.shown.parts ≤ 1 = one (subst (λ k. runs_low lot k l ≡ true) same low) in (
             orderly_put es s l.price 1 2 (part e.number e.participant q mark) l.shown (own q mark) (marks mark refl) (subst (λ k. parts_of k l.shown.parts + 1 ≤ 2) (sym same) (omega arith)) o.0,
             orderly_lost es s l.price 0 1 (shares_in_order q (pieces e.number l.hidden.parts)) l.hidden o.1,
           )
-      go false low = o

@@ -17,6 +17,7 @@ use Rattle.rules.specs.Reserve.{runs_low, is_reserve}
 use Rattle.rules.specs.Refusals.{rests}
 use Rattle.rules.specs.Entering.{two_parts, shown_part, hidden_part, place, not_placed, arrived}
 use Rattle.rules.specs.Invariants.{BestFirst, prices}
+use Rattle.rules.proofs.Renewed.{two_parts_by}
 use Rattle.rules.proofs.Members.{all_both}
 use Rattle.rules.proofs.Parts.{put_all}
 use Rattle.rules.proofs.AtPrice.{on_price_to}
@@ -35,17 +36,9 @@ put_hidden_held : (P : ℕ → Type 0) (x : Part) (l : Level) → P l.price → 
 put_hidden_held P x l here h = (h.0, put_all (λ _. P l.price) x l.hidden h.1 here)
 
 two_parts_held : (P : ℕ → Type 0) (rank : Ranking) (b : Book) (e : Order) (n : ℕ) (l : Level) → P l.price → Held P l → Held P (two_parts rank b e n l)
-two_parts_held P rank b e n l here h = go (eqb (n - d) 0)
-  where
-    d : ℕ
-    d = min e.display n
-
-    x : Part
-    x = shown_part rank b e d
-
-    go : (t : Bool) → Held P (cond t (put_shown x l) (put_hidden (hidden_part e (n - d)) (put_shown x l)))
-    go true = put_held P x l here h
-    go false = put_hidden_held P (hidden_part e (n - d)) (put_shown x l) here (put_held P x l here h)
+two_parts_held P rank b e n l here h =
+    let shown : Held P (put_shown (shown_part rank b e (min e.display n)) l) = put_held P (shown_part rank b e (min e.display n)) l here h in
+    two_parts_by (Held P) rank b e n l (λ _. shown) (λ _. put_hidden_held P (hidden_part e (n - min e.display n)) (put_shown (shown_part rank b e (min e.display n)) l) here shown)
 
 module _ (rank : Ranking) (O : TotalOrder rank.good) where
   placed_held : (P : ℕ → Type 0) (s : Side) (v : ℕ) (f : Level → Level) (ls : List Level) → BestFirst rank s (prices ls) → P v → ((l : Level) → P l.price → Held P l → Held P (f l)) → AllByRecursion (Held P) ls → AllByRecursion (Held P) (on_price rank s v f ls)

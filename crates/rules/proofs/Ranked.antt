@@ -18,14 +18,16 @@ use Rattle.rules.specs.declared.answers.Row.{Row}
 use Rattle.rules.specs.Books.{Level, side, Ranking, Book, good, better, nothing_at, with_side, other}
 use Rattle.rules.specs.Quantities.{of_level}
 use Rattle.rules.specs.Changes.{on_price, put_shown, put_hidden}
-use Rattle.rules.specs.Marks.{unmarked, earns_mark}
+use Rattle.rules.specs.Marks.{unmarked}
 use Rattle.rules.specs.TakingOff.{take_off, take_off_side, take_off_level}
 use Rattle.rules.specs.Trading.{trade_price, trade_reached, trade_side, Traded, in_reach}
-use Rattle.rules.specs.Reserve.{on, join_hidden, runs_low, shows_two, show_anew, replenish, replenish_order, is_reserve, hidden_of}
+use Rattle.rules.specs.Reserve.{on, join_hidden, runs_low, shows_two, show_anew, replenish, replenish_order}
 use Rattle.rules.specs.Refusals.{first, refusals}
 use Rattle.rules.specs.Entering.{trade, two_parts, place, shown_part, hidden_part, finished, enter, arrived, not_placed}
 use Rattle.rules.specs.Rules.{effect, rule, tidy, ruled, holds}
 use Rattle.rules.specs.Invariants.{prices, BestFirst}
+use Rattle.rules.proofs.Renewed.{renewed_by}
+use Rattle.rules.proofs.Members.{mapped_kept}
 use Rattle.rules.proofs.Chains.{good_chain, good_same}
 use Rattle.rules.proofs.Crossing.{Fine}
 
@@ -114,20 +116,12 @@ module _ (rank : Ranking) (O : TotalOrder rank.good) where
           (subst (λ k. AllByRecursion (λ w. better rank s k w ≡ true) (l.price ∷ prices ls)) (sym (still (nothing_at v))) (strictly s v l.price et eu, All-weaker (λ w. better rank s l.price w ≡ true) (λ w. better rank s v w ≡ true) (λ w k. better_chain s v l.price w eu k) (prices ls) h.0), h)
       go false et false eu ih = (on_price_all s (λ w. better rank s l.price w ≡ true) v f ls still (not_from_false (good rank s v l.price) eu) h.0, ih)
 
-  kept_all : (P : ℕ → Type 0) (f : Level → Bool) (ls : List Level) → AllByRecursion P (prices ls) → AllByRecursion P (prices (filter f ls))
-  kept_all P f [] h = tt
-  kept_all P f (l ∷ ls) h = go (f l) (kept_all P f ls h.1)
-    where
-      go : (t : Bool) → AllByRecursion P (prices (filter f ls)) → AllByRecursion P (prices (cond t (l ∷ filter f ls) (filter f ls)))
-      go true ih = (h.0, ih)
-      go false ih = ih
-
   pub kept_sorted : (s : Side) (f : Level → Bool) (ls : List Level) → BestFirst rank s (prices ls) → BestFirst rank s (prices (filter f ls))
   kept_sorted s f [] h = tt
   kept_sorted s f (l ∷ ls) h = go (f l) (kept_sorted s f ls h.1)
     where
       go : (t : Bool) → BestFirst rank s (prices (filter f ls)) → BestFirst rank s (prices (cond t (l ∷ filter f ls) (filter f ls)))
-      go true ih = (kept_all (λ w. better rank s l.price w ≡ true) f ls h.0, ih)
+      go true ih = (mapped_kept (λ l. l.price) (λ w. better rank s l.price w ≡ true) f ls h.0, ih)
       go false ih = ih
 
   -- ## Every call
@@ -149,18 +143,8 @@ module _ (rank : Ranking) (O : TotalOrder rank.good) where
   on_ranked e f b still r = side_ranked e.side (on_price rank e.side e.price f (side e.side b)) b r (on_price_sorted e.side e.price f (side e.side b) still (sorted_side e.side b r))
 
   pub replenish_order_ranked : (b : Book) (e : Order) → Ranked b → Ranked (replenish_order rank b e)
-  unfolding replenish_order
-  replenish_order_ranked b e r = go (is_reserve e.kind)
-    where
-      c : Book
-      c = on rank e (join_hidden b.lot e.number) b
-
-      mark : Bool
-      mark = earns_mark rank e.side e.price (min e.display (hidden_of e.number (side e.side c))) c
-
-      go : (t : Bool) → Ranked (cond t (on rank e (show_anew b.lot e mark) c) b)
-      go true = on_ranked e (show_anew b.lot e mark) c (show_anew_still b.lot e mark) (on_ranked e (join_hidden b.lot e.number) b (join_hidden_still b.lot e.number) r)
-      go false = r
+  replenish_order_ranked b e r =
+      renewed_by Ranked rank b e r (λ mark _. on_ranked e (show_anew b.lot e mark) _ (show_anew_still b.lot e mark) (on_ranked e (join_hidden b.lot e.number) b (join_hidden_still b.lot e.number) r))
 
   pub all_ranked : (b : Book) (es : List Order) → Ranked b → Ranked (fold (replenish_order rank) b es)
   all_ranked b [] r = r

@@ -32,7 +32,7 @@ use Rattle.rules.proofs.Listing.{own_each, own_last, unique_each, listed_push}
 use Rattle.rules.proofs.Tending.{Both, orderly_side, Midway, all_midway, place_both}
 use Rattle.rules.proofs.Rested.{Rested, all_rested}
 use Rattle.rules.proofs.Emptied.{side_emptied}
-use Rattle.rules.proofs.Uncrossed.{Apart, apart_changed, uncrossed_apart, held_weaker, held_and, price_held, all_held, all_apart}
+use Rattle.rules.proofs.Uncrossed.{Apart, apart_changed, uncrossed_apart, held_weaker, held_and, nothing_held, all_held, all_apart}
 use Rattle.rules.proofs.Numbering.{rising_push, rising_distinct, rising_below, admitted_displays, display_enough, sound_fit, sound_ranked}
 use Rattle.rules.proofs.Placing.{place_held, place_other, out_of_limit, turned_good, place_rested, place_own_rested}
 use Rattle.rules.proofs.Upkeep.{Upkept, upkept_less}
@@ -71,13 +71,6 @@ has_counted s (t ∷ ss) h = go (same_step t s) h (has_counted s ss)
     go : (x : Bool) → cond x 1 0 + count s ss ≡ 1 → (count s ss ≡ 1 → has_step s ss ≡ true) → (x || has_step s ss) ≡ true
     go true h ih = refl
     go false h ih = ih (omega arith)
-
-units : (ls : List Level) → AllByRecursion (Held (λ _. Unit {0})) ls
-units ls = price_held (λ _. Unit {0}) ls (every ls)
-  where
-    every : (ls : List Level) → AllByRecursion (λ (_ : Level). Unit {0}) ls
-    every [] = tt
-    every (l ∷ ls) = (tt, every ls)
 
 module _ (rank : Ranking) (O : TotalOrder rank.good) (deal : Deal) (D : Lawful deal) where
   -- ## After trading and replenishing
@@ -161,8 +154,8 @@ module _ (rank : Ranking) (O : TotalOrder rank.good) (deal : Deal) (D : Lawful d
 
       kept_empty : (t : Side) → AllByRecursion (Held (λ w. reach w ≡ false)) (trade_side deal b.lot e.number b.steps reach e.quantity (side t c)).rest
           → AllByRecursion (Held (λ w. reach w ≡ false)) (side t (fold (replenish_order rank) (with_side t (trade_side deal b.lot e.number b.steps reach e.quantity (side t c)).rest c) es))
-      kept_empty Buy h = (all_held (λ w. reach w ≡ false) (λ _. Unit {0}) rank (with_side Buy (trade_side deal b.lot e.number b.steps reach e.quantity b.buys).rest c) es (h, units b.sells)).0
-      kept_empty Sell h = (all_held (λ _. Unit {0}) (λ w. reach w ≡ false) rank (with_side Sell (trade_side deal b.lot e.number b.steps reach e.quantity b.sells).rest c) es (units b.buys, h)).1
+      kept_empty Buy h = (all_held (λ w. reach w ≡ false) (λ _. Unit {0}) rank (with_side Buy (trade_side deal b.lot e.number b.steps reach e.quantity b.buys).rest c) es (h, nothing_held b.sells)).0
+      kept_empty Sell h = (all_held (λ _. Unit {0}) (λ w. reach w ≡ false) rank (with_side Sell (trade_side deal b.lot e.number b.steps reach e.quantity b.sells).rest c) es (nothing_held b.buys, h)).1
 
   -- ## What becomes of the remainder
 

@@ -11,7 +11,6 @@ use Rattle.rules.specs.declared.orders.Order.{Order}
 use Rattle.rules.specs.declared.calls.Call.{Call}
 use Rattle.rules.specs.declared.calls.Call.TheVariants.{Enter, Close, Open, Halt, Resume, Quote, Cancel, Reduce}
 use Rattle.rules.specs.declared.answers.Refusal.{Refusal}
-use Rattle.rules.specs.declared.answers.Answer.TheVariants.{Accepted}
 use Rattle.rules.specs.declared.answers.Row.{Row}
 use Rattle.rules.specs.declared.answers.Row.TheVariants.{Trade, GivenBack}
 use Rattle.rules.specs.Lists.{sum_of}
@@ -21,12 +20,12 @@ use Rattle.rules.specs.Marks.{unmarked}
 use Rattle.rules.specs.TakingOff.{take_off}
 use Rattle.rules.specs.Trading.{Traded, in_reach}
 use Rattle.rules.specs.Refusals.{first, refusals, bad_quantity, within}
-use Rattle.rules.specs.Entering.{trade, arrived, finished, done, enter, not_placed}
+use Rattle.rules.specs.Entering.{with_order, place, trade, arrived, finished, done, enter, not_placed}
 use Rattle.rules.specs.Rules.{row_traded, row_given_back, all_back, effect, rule, ruled}
 use Rattle.rules.specs.OrderLaw.{forget}
 use Rattle.rules.specs.Invariants.{SoundBook, numbers}
 use Rattle.rules.specs.Reports.{Names, WellReported, most_rows, ReportsWell}
-use Rattle.rules.specs.Codes.{answer_number}
+use Rattle.rules.specs.Codes.{accepted, answer_number}
 use Rattle.rules.proofs.Members.{sum_of_append}
 use Rattle.rules.proofs.Trades.{as_resting, as_arriving, Arrives}
 use Rattle.rules.proofs.Fits.{Fit, AfterTrade, after_trading, side_good}
@@ -114,11 +113,12 @@ module _ (rank : Ranking) (O : TotalOrder rank.good) (deal : Deal) (D : Lawful d
         );
       }
 
-  accepted_zero : (X : Type 0) (t g : ℕ) → 0 < answer_number (Accepted t g) → X
+  accepted_zero : (X : Type 0) (t g : ℕ) → 0 < answer_number (accepted t g) → X
   accepted_zero X t g h = let no_way : ⊥ = omega arith in absurd no_way
 
-  finished_reported : (b : Book) (e : Order) (t u : Bool) (r : Traded Book) → eqb r.left 0 ≡ t → MetRows b e r → WellReported b (Enter e) (finished t u rank e r.left r.rows r.rest)
-  finished_reported b e true u r z m =
+  -- nothing is given back at the end
+  met_reported : (b : Book) (e : Order) (r : Traded Book) (x : Book) → MetRows b e r → WellReported b (Enter e) (done (e.quantity - r.left) 0 r.rows x)
+  met_reported b e r x m =
       record {
         traded = omega (arith, m.traded);
         given_back = sym m.given;
@@ -126,6 +126,9 @@ module _ (rank : Ranking) (O : TotalOrder rank.good) (deal : Deal) (D : Lawful d
         names = m.names;
         few = omega (arith, m.few);
       }
+
+  finished_reported : (b : Book) (e : Order) (t u : Bool) (r : Traded Book) → eqb r.left 0 ≡ t → MetRows b e r → WellReported b (Enter e) (finished t u rank e r.left r.rows r.rest)
+  finished_reported b e true u r z m = met_reported b e r r.rest m
   finished_reported b e false true r z m =
       let last : Row = GivenBack e.number r.left in
       record {
@@ -135,14 +138,7 @@ module _ (rank : Ranking) (O : TotalOrder rank.good) (deal : Deal) (D : Lawful d
         names = All-push (Names b (Enter e)) r.rows last m.names (omega (arith, eqb-false r.left 0 z), inr (eq-eqb e.number e.number refl));
         few = omega (arith, m.few, length_push r.rows last);
       }
-  finished_reported b e false false r z m =
-      record {
-        traded = omega (arith, m.traded);
-        given_back = sym m.given;
-        refused = accepted_zero _ (e.quantity - r.left) 0;
-        names = m.names;
-        few = omega (arith, m.few);
-      }
+  finished_reported b e false false r z m = met_reported b e r (with_order e (place rank e.kind e r.left r.rest)) m
 
   no_rows : (b : Book) (c : Call) (x : Book) → WellReported b c (done 0 0 [] x)
   no_rows b c x = record { traded = refl; given_back = refl; refused = accepted_zero _ 0 0; names = tt; few = omega arith }

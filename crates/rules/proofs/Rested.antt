@@ -1,5 +1,5 @@
 -- After replenishing no reserve order runs low. Assumes nothing.
-use Rattle.std.proofs.Common.{◌≡◌, ℕ, ◌<◌, ◌≤◌, min, Bool, true, false, cond, eqb, List, [], ◌∷◌, fold, sym, refl, ap, ◌∙◌, subst, arith}
+use Rattle.std.proofs.Common.{◌≡◌, ℕ, ◌<◌, ◌≤◌, min, Bool, true, false, eqb, List, [], ◌∷◌, fold, sym, refl, ap, ◌∙◌, subst, arith}
 use mathlib.Core.Bool.{false≢true}
 use Rattle.std.specs.List.{AllByRecursion}
 use Rattle.std.proofs.lemmas.Bool.{eqb-true, eqb-false, ne_eqb, and_parts}
@@ -16,6 +16,7 @@ use Rattle.rules.specs.Changes.{on_price}
 use Rattle.rules.specs.Marks.{earns_mark}
 use Rattle.rules.specs.Reserve.{runs_low, on, replenish_order, is_reserve, join_hidden, hidden_of, show_anew}
 use Rattle.rules.specs.Invariants.{listed, Orderly, BestFirst, prices, SoundLevel, numbers}
+use Rattle.rules.proofs.Renewed.{renewed_by}
 use Rattle.rules.proofs.Fits.{Displays}
 use Rattle.rules.proofs.Ranked.{on_price_sorted, join_hidden_still}
 use Rattle.rules.proofs.AtPrice.{on_price_each, on_price_to}
@@ -40,21 +41,10 @@ on_rested rank e lot k f b fresh step h = go e.side
     go Sell = (h.0, on_price_each (λ l. runs_low lot k l ≡ false) rank Sell e.price f b.sells (nothing_low lot k e.price) step h.1)
 
 pub rested_other : (rank : Ranking) (lot k : ℕ) (b : Book) (e : Order) → eqb e.number k ≡ false → Rested lot k b → Rested lot k (replenish_order rank b e)
-unfolding replenish_order
-rested_other rank lot k b e ne h = go (is_reserve e.kind)
-  where
-    c : Book
-    c = on rank e (join_hidden b.lot e.number) b
-
-    mark : Bool
-    mark = earns_mark rank e.side e.price (min e.display (hidden_of e.number (side e.side c))) c
-
-    first : Rested lot k c
-    first = on_rested rank e lot k (join_hidden b.lot e.number) b (joined_other lot k b.lot e.number (nothing_at e.price) ne ∙ nothing_low lot k e.price) (λ l i. joined_other lot k b.lot e.number l ne ∙ i) h
-
-    go : (t : Bool) → Rested lot k (cond t (on rank e (show_anew b.lot e mark) c) b)
-    go true = on_rested rank e lot k (show_anew b.lot e mark) c (shown_anew_other lot k b.lot e mark (nothing_at e.price) ne ∙ nothing_low lot k e.price) (λ l i. shown_anew_other lot k b.lot e mark l ne ∙ i) first
-    go false = h
+rested_other rank lot k b e ne h =
+    renewed_by (Rested lot k) rank b e h (λ mark _.
+    on_rested rank e lot k (show_anew b.lot e mark) (on rank e (join_hidden b.lot e.number) b) (shown_anew_other lot k b.lot e mark (nothing_at e.price) ne ∙ nothing_low lot k e.price) (λ l i. shown_anew_other lot k b.lot e mark l ne ∙ i)
+    (on_rested rank e lot k (join_hidden b.lot e.number) b (joined_other lot k b.lot e.number (nothing_at e.price) ne ∙ nothing_low lot k e.price) (λ l i. joined_other lot k b.lot e.number l ne ∙ i) h))
 
 pub rested_others : (rank : Ranking) (lot k : ℕ) (b : Book) (xs : List Order) → AllByRecursion (λ x. eqb x.number k ≡ false) xs → Rested lot k b → Rested lot k (fold (replenish_order rank) b xs)
 rested_others rank lot k b [] ne h = h

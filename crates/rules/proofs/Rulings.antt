@@ -1,5 +1,5 @@
 -- Every call keeps a book fit, and what an order had and brought is in the rows or rests. Assumes nothing.
-use Rattle.std.proofs.Common.{◌≡◌, ℕ, ◌%◌, ◌<◌, ◌≤◌, Bool, true, false, cond, ◌&&◌, eqb, leb, List, [], ◌∷◌, Some, None, Option, refl, ap, ◌∙◌, arith}
+use Rattle.std.proofs.Common.{◌≡◌, ℕ, ◌%◌, ◌<◌, ◌≤◌, Bool, true, false, cond, ◌&&◌, eqb, leb, List, [], ◌∷◌, Some, None, Option, refl, ap, ◌∙◌, arith, Err}
 use mathlib.Core.Bool.{false≢true}
 use Rattle.std.specs.List.{AllByRecursion}
 use Rattle.std.proofs.lemmas.Bool.{and_parts, not-false, ne_eqb, leb-true, leb-false}
@@ -17,7 +17,7 @@ use Rattle.rules.specs.Marks.{unmarked}
 use Rattle.rules.specs.TakingOff.{take_off}
 use Rattle.rules.specs.Trading.{Traded}
 use Rattle.rules.specs.Reserve.{is_reserve}
-use Rattle.rules.specs.Refusals.{first, bad_display, within, refusals, next_phase, phase_after}
+use Rattle.rules.specs.Refusals.{first, passed, bad_display, within, refusals, next_phase, phase_after}
 use Rattle.rules.specs.Entering.{Outcome, enter, trade, arrived, not_placed, finished}
 use Rattle.rules.specs.Rules.{effect, settled, tidy, rule, ruled}
 use Rattle.rules.specs.Codes.{answer_number, refusal_number}
@@ -226,3 +226,8 @@ module _ (rank : Ranking) (deal : Deal) (D : Lawful deal) (lot : ℕ) where
             yes_last = λ z. absurd (no_way z);
             no_last = λ _. refl;
           }
+
+-- the refusal that a test met
+pub refused_by : (o : Option Refusal) (r : Refusal) → passed o ≡ Err r → o ≡ Some r
+refused_by None r e = absurd (grind (arith, e))
+refused_by (Some x) r e = grind (arith, e)

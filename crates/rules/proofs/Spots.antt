@@ -27,21 +27,19 @@ use Rattle.rules.proofs.Leads.{Mine, MineAt, got, interest_got}
 
 -- ## Levels by price
 
-pub good_at : (lot v : ℕ) (ls : List Level) → 0 < lot → AllByRecursion (SoundLevel lot) ls → SoundLevel lot (level_at v ls)
-good_at lot v [] pos h = empty_good lot v pos
-good_at lot v (l ∷ ls) pos h = go (eqb l.price v) (good_at lot v ls pos h.1)
+pub at_level : (P : Level → Type 0) (v : ℕ) (ls : List Level) → P (nothing_at v) → AllByRecursion P ls → P (level_at v ls)
+at_level P v [] none h = none
+at_level P v (l ∷ ls) none h = go (eqb l.price v) (at_level P v ls none h.1)
   where
-    go : (t : Bool) → SoundLevel lot (level_at v ls) → SoundLevel lot (cond t l (level_at v ls))
+    go : (t : Bool) → P (level_at v ls) → P (cond t l (level_at v ls))
     go true ih = h.0
     go false ih = ih
 
+pub good_at : (lot v : ℕ) (ls : List Level) → 0 < lot → AllByRecursion (SoundLevel lot) ls → SoundLevel lot (level_at v ls)
+good_at lot v ls pos = at_level (SoundLevel lot) v ls (empty_good lot v pos)
+
 pub mine_at : (es : List Order) (v : ℕ) (ls : List Level) → AllByRecursion (MineAt es) ls → MineAt es (level_at v ls)
-mine_at es v [] h = (tt, tt)
-mine_at es v (l ∷ ls) h = go (eqb l.price v) (mine_at es v ls h.1)
-  where
-    go : (t : Bool) → MineAt es (level_at v ls) → MineAt es (cond t l (level_at v ls))
-    go true ih = h.0
-    go false ih = ih
+mine_at es v ls = at_level (MineAt es) v ls (tt, tt)
 
 none_at : (v : ℕ) (ls : List Level) → has v (prices ls) ≡ false → level_at v ls ≡ nothing_at v
 none_at v [] h = refl

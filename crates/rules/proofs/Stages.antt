@@ -22,6 +22,11 @@ use Rattle.rules.proofs.Trades.{lowered_none}
 abbrev pub amount : List Part → ℕ
 amount = sum_of (λ p. p.quantity)
 
+pub at_most_amount : (ps : List Part) (xs : List ℕ) → AtMost xs ps → sum xs ≤ amount ps
+at_most_amount ps [] h = omega arith
+at_most_amount [] (x ∷ xs) h = absurd h
+at_most_amount (p ∷ ps) (x ∷ xs) h = omega (arith, h.0, at_most_amount ps xs h.1)
+
 pub record Stage (q : ℕ) (ps : List Part) (xs : List ℕ) (left : ℕ) : Type 0 where
   pub at_most : AtMost xs ps
   pub spent : q ≡ sum xs + left
@@ -91,7 +96,7 @@ rest_after (p ∷ ps) (x ∷ xs) pos h e =
 
 -- ## Each step
 
-rows_none : (s : Step) (a v : ℕ) (ps : List Part) → rows_of s a v ps [] ≡ []
+pub rows_none : (s : Step) (a v : ℕ) (ps : List Part) → rows_of s a v ps [] ≡ []
 rows_none s a v [] = refl
 rows_none s a v (p ∷ ps) = refl
 

@@ -89,25 +89,21 @@ module _ (rank : Ranking) (deal : Deal) (D : Lawful deal) (lot : ℕ) where
       go (inl z) = omega (arith, r.yes_last z, never_falls b c (r.yes_allowed z))
       go (inr z) = omega (arith, r.no_last z)
 
-  brings_none : (n : ℕ) (b : Book) (room : ℕ) (c : Call) → Fit lot b → n ≤ b.last → cond (eqb (answer_number (rule rank deal b room c).answer) 0) (entry_of c n) 0 ≡ 0
-  brings_none n b room c f h = go (eqb (answer_number x.answer) 0) refl
+  no_entry : (n : ℕ) (b : Book) (room : ℕ) (c : Call) → (answer_number (rule rank deal b room c).answer ≡ 0 → entry_of c n ≡ 0) → cond (eqb (answer_number (rule rank deal b room c).answer) 0) (entry_of c n) 0 ≡ 0
+  no_entry n b room c none = go (eqb k 0) refl
     where
-      x : Outcome
-      x = rule rank deal b room c
+      k : ℕ
+      k = answer_number (rule rank deal b room c).answer
 
-      go : (t : Bool) → eqb (answer_number x.answer) 0 ≡ t → cond t (entry_of c n) 0 ≡ 0
-      go true e = only_new n b c ((rule_did rank deal D lot b room c f).yes_allowed (eqb-true (answer_number x.answer) 0 e)) h
+      go : (t : Bool) → eqb k 0 ≡ t → cond t (entry_of c n) 0 ≡ 0
+      go true e = none (eqb-true k 0 e)
       go false e = refl
+
+  brings_none : (n : ℕ) (b : Book) (room : ℕ) (c : Call) → Fit lot b → n ≤ b.last → cond (eqb (answer_number (rule rank deal b room c).answer) 0) (entry_of c n) 0 ≡ 0
+  brings_none n b room c f h = no_entry n b room c (λ z. only_new n b c ((rule_did rank deal D lot b room c f).yes_allowed z) h)
 
   brings_no_later : (n : ℕ) (b : Book) (room : ℕ) (c : Call) → Fit lot b → (rule rank deal b room c).book.last < n → cond (eqb (answer_number (rule rank deal b room c).answer) 0) (entry_of c n) 0 ≡ 0
-  brings_no_later n b room c f h = go (eqb (answer_number x.answer) 0) refl
-    where
-      x : Outcome
-      x = rule rank deal b room c
-
-      go : (t : Bool) → eqb (answer_number x.answer) 0 ≡ t → cond t (entry_of c n) 0 ≡ 0
-      go true e = only_at_last n b c (let l = (rule_did rank deal D lot b room c f).yes_last (eqb-true (answer_number x.answer) 0 e) in omega arith)
-      go false e = refl
+  brings_no_later n b room c f h = no_entry n b room c (λ z. only_at_last n b c (let l = (rule_did rank deal D lot b room c f).yes_last z in omega arith))
 
   old_brings_none : (n : ℕ) (b : Book) (asks : List Ask) → Fit lot b → n ≤ b.last → sum_of (brought n) (run rank deal b asks) ≡ 0
   old_brings_none n b [] f h = refl

@@ -14,9 +14,10 @@ use Rattle.rules.specs.Books.{part, Level, Ranking, Book, side, away, nothing_at
 use Rattle.rules.specs.Quantities.{best, of_order, of_side}
 use Rattle.rules.specs.Changes.{on_price, put_shown, put_hidden}
 use Rattle.rules.specs.Marks.{mark_at, earns_mark, beats, quoted}
-use Rattle.rules.specs.Reserve.{on, join_hidden, show_anew, hidden_of, replenish_order, is_reserve}
+use Rattle.rules.specs.Reserve.{join_hidden, show_anew, hidden_of, replenish_order}
 use Rattle.rules.specs.Entering.{place, hidden_part, two_parts, shown_part}
 use Rattle.rules.specs.Invariants.{marked_parts, Orderly, BestFirst, prices, SoundLevel, listed, parts_of}
+use Rattle.rules.proofs.Renewed.{renewed_at, two_parts_by}
 use Rattle.rules.proofs.Members.{all_both}
 use Rattle.rules.proofs.Parts.{no_part}
 use Rattle.rules.proofs.Levels.{empty_good}
@@ -115,23 +116,12 @@ module _ (rank : Ranking) (O : TotalOrder rank.good) (lot : ℕ) (pos : 0 < lot)
     pub both : Both es b
 
   pub midway_renewed : (es : List Order) (b : Book) (e : Order) → Displays e → OwnListed es e → Midway es b → Midway es (replenish_order rank b e)
-  unfolding replenish_order
   midway_renewed es b e ok own m =
       record {
         sides = replenish_order_fit rank lot b e pos ok m.sides;
         ranked = replenish_order_ranked rank O b e m.ranked;
-        both = go (is_reserve e.kind);
+        both = renewed_at (Both es) rank b e m.both (λ _. renewed_both es e e.side b.lot b m.sides.is m.sides m.ranked own m.both);
       }
-    where
-      c : Book
-      c = on rank e (join_hidden b.lot e.number) b
-
-      mark : Bool
-      mark = earns_mark rank e.side e.price (min e.display (hidden_of e.number (side e.side c))) c
-
-      go : (t : Bool) → Both es (cond t (on rank e (show_anew b.lot e mark) c) b)
-      go true = renewed_both es e e.side b.lot b m.sides.is m.sides m.ranked own m.both
-      go false = m.both
 
   pub all_midway : (es : List Order) (b : Book) (xs : List Order) → AllByRecursion Displays xs → AllByRecursion (OwnListed es) xs → Midway es b → Midway es (fold (replenish_order rank) b xs)
   all_midway es b [] d own m = m
@@ -171,7 +161,7 @@ module _ (rank : Ranking) (O : TotalOrder rank.good) (lot : ℕ) (pos : 0 < lot)
 
   two_parts_orderly : (es : List Order) (s : Side) (b : Book) (e : Order) (n : ℕ) (l : Level) → ((k : ℕ) (m : Bool) → listed es s l.price (part e.number e.participant k m) ≡ true) → parts_of e.number l.shown.parts ≡ 0 → parts_of e.number l.hidden.parts ≡ 0
       → ((shown_part rank b e (min e.display n)).marked ≡ true → marked_parts l.shown.parts ≡ 0) → Orderly es s l → Orderly es s (two_parts rank b e n l)
-  two_parts_orderly es s b e n l own a c clear o = go (eqb (n - d) 0)
+  two_parts_orderly es s b e n l own a c clear o = two_parts_by (Orderly es s) rank b e n l (λ _. first) (λ _. put_hidden_orderly es s e (n - d) (put_shown x l) (own (n - d) false) c first)
     where
       d : ℕ
       d = min e.display n
@@ -181,10 +171,6 @@ module _ (rank : Ranking) (O : TotalOrder rank.good) (lot : ℕ) (pos : 0 < lot)
 
       first : Orderly es s (put_shown x l)
       first = put_shown_orderly es s x l (own d x.marked) a clear o
-
-      go : (t : Bool) → Orderly es s (cond t (put_shown x l) (put_hidden (hidden_part e (n - d)) (put_shown x l)))
-      go true = first
-      go false = put_hidden_orderly es s e (n - d) (put_shown x l) (own (n - d) false) c first
 
   on_side : (es : List Order) (e : Order) (s : Side) (f : Level → Level) (b : Book) → Both es b → AllByRecursion (Orderly es s) (on_price rank s e.price f (side s b)) → Both es (with_side s (on_price rank s e.price f (side s b)) b)
   on_side es e Buy f b h k = (k, h.1)

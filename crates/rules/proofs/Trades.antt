@@ -104,7 +104,7 @@ fair_dealt deal D lot q w (p ∷ ps) s =
       };
     }
 
-queue_sound : (lot : ℕ) (s : Step) (l : Level) → SoundLevel lot l → SoundQueue lot (queue_of s l)
+pub queue_sound : (lot : ℕ) (s : Step) (l : Level) → SoundLevel lot l → SoundQueue lot (queue_of s l)
 queue_sound lot Step.Setter l g = g.0
 queue_sound lot Step.Displayed l g = g.0
 queue_sound lot Step.Hidden l g = g.1

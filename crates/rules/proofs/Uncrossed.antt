@@ -1,5 +1,5 @@
 -- A book that is not crossed against itself stays so. Assumes nothing.
-use Rattle.std.proofs.Common.{◌≡◌, ℕ, min, Bool, true, false, cond, not, ◌&&◌, List, [], ◌∷◌, fold}
+use Rattle.std.proofs.Common.{◌≡◌, ℕ, Bool, true, false, not, ◌&&◌, List, [], ◌∷◌, fold}
 use mathlib.Core.Bool.{false≢true}
 use Rattle.std.specs.List.{AllByRecursion}
 use Rattle.std.proofs.ByRecursion.{All-weaker}
@@ -9,11 +9,11 @@ use Rattle.rules.specs.declared.orders.Order.{Order}
 use Rattle.rules.specs.declared.orders.Part.{Part}
 use Rattle.rules.specs.Books.{Level, Ranking, good, Book, side, with_side}
 use Rattle.rules.specs.Changes.{on_price}
-use Rattle.rules.specs.Marks.{earns_mark}
-use Rattle.rules.specs.Reserve.{on, show_anew, join_hidden, replenish_order, is_reserve, hidden_of}
+use Rattle.rules.specs.Reserve.{show_anew, join_hidden, replenish_order}
 use Rattle.rules.specs.Rules.{holds, empty}
 use Rattle.rules.specs.Invariants.{Uncrossed}
-use Rattle.rules.proofs.Members.{all_both}
+use Rattle.rules.proofs.Renewed.{renewed_by}
+use Rattle.rules.proofs.Members.{all_both, always}
 use Rattle.rules.proofs.AtPrice.{on_price_each}
 use Rattle.rules.proofs.Walks.{Held, held_joined, held_shown_anew}
 
@@ -39,14 +39,13 @@ apart_changed rank bs bs' ss ss' f g h =
     held_weaker (λ v. AllByRecursion (Held (λ w. good rank Sell w v ≡ false)) ss) (λ v. AllByRecursion (Held (λ w. good rank Sell w v ≡ false)) ss') (λ v k. g (λ w. good rank Sell w v ≡ false) k) bs'
     (f (λ v. AllByRecursion (Held (λ w. good rank Sell w v ≡ false)) ss) h)
 
-everyone : (X : Type 0) (ps : List Part) → X → AllByRecursion (λ (_ : Part). X) ps
-everyone X [] x = tt
-everyone X (p ∷ ps) x = (x, everyone X ps x)
-
 -- ## All prices, and those with parts
 
 pub price_held : (P : ℕ → Type 0) (ls : List Level) → AllByRecursion (λ l. P l.price) ls → AllByRecursion (Held P) ls
-price_held P ls h = All-weaker (λ l. P l.price) (Held P) (λ l x. (everyone (P l.price) l.shown.parts x, everyone (P l.price) l.hidden.parts x)) ls h
+price_held P ls h = All-weaker (λ l. P l.price) (Held P) (λ l x. (always (P l.price) l.shown.parts x, always (P l.price) l.hidden.parts x)) ls h
+
+pub nothing_held : (ls : List Level) → AllByRecursion (Held (λ _. Unit {0})) ls
+nothing_held ls = price_held (λ _. Unit {0}) ls (always (Unit {0}) ls tt)
 
 held_price : (P : ℕ → Type 0) (l : Level) → holds l ≡ true → Held P l → P l.price
 held_price P l = go l.shown.parts l.hidden.parts
@@ -82,22 +81,11 @@ abbrev pub HeldBoth : (ℕ → Type 0) → (ℕ → Type 0) → Book → Type 0
 HeldBoth P R b = AllByRecursion (Held P) b.buys × AllByRecursion (Held R) b.sells
 
 renewed_held_both : (P R : ℕ → Type 0) (rank : Ranking) (b : Book) (e : Order) → HeldBoth P R b → HeldBoth P R (replenish_order rank b e)
-unfolding replenish_order
-renewed_held_both P R rank b e h = go (is_reserve e.kind)
+renewed_held_both P R rank b e h = renewed_by (HeldBoth P R) rank b e h (λ mark _. at e.side mark)
   where
-    c : Book
-    c = on rank e (join_hidden b.lot e.number) b
-
-    mark : Bool
-    mark = earns_mark rank e.side e.price (min e.display (hidden_of e.number (side e.side c))) c
-
     at : (s : Side) (mark : Bool) → (let c : Book = with_side s (on_price rank s e.price (join_hidden b.lot e.number) (side s b)) b in HeldBoth P R (with_side s (on_price rank s e.price (show_anew b.lot e mark) (side s c)) c))
     at Buy mark = (renewed_held P rank Buy b.lot e mark b.buys h.0, h.1)
     at Sell mark = (h.0, renewed_held R rank Sell b.lot e mark b.sells h.1)
-
-    go : (t : Bool) → HeldBoth P R (cond t (on rank e (show_anew b.lot e mark) c) b)
-    go true = at e.side mark
-    go false = h
 
 pub all_held : (P R : ℕ → Type 0) (rank : Ranking) (b : Book) (xs : List Order) → HeldBoth P R b → HeldBoth P R (fold (replenish_order rank) b xs)
 all_held P R rank b [] h = h
@@ -107,9 +95,5 @@ pub all_apart : (rank : Ranking) (b : Book) (xs : List Order) → Apart rank b.b
 all_apart rank b xs h =
     let c : Book = fold (replenish_order rank) b xs in
     apart_changed rank b.buys c.buys b.sells c.sells
-    (λ P k. (all_held P (λ _. Unit {0}) rank b xs (k, price_held (λ _. Unit {0}) b.sells (units b.sells))).0)
-    (λ P k. (all_held (λ _. Unit {0}) P rank b xs (price_held (λ _. Unit {0}) b.buys (units b.buys), k)).1) h
-  where
-    units : (ls : List Level) → AllByRecursion (λ (_ : Level). Unit {0}) ls
-    units [] = tt
-    units (l ∷ ls) = (tt, units ls)
+    (λ P k. (all_held P (λ _. Unit {0}) rank b xs (k, nothing_held b.sells)).0)
+    (λ P k. (all_held (λ _. Unit {0}) P rank b xs (nothing_held b.buys, k)).1) h

@@ -1,5 +1,5 @@
 -- What holds of each level of a side stays so through trading, taking off and unmarking, if each of their steps keeps it. Assumes nothing.
-use Rattle.std.proofs.Common.{◌≡◌, ℕ, ◌-◌, ◌<◌, min, Bool, true, false, cond, ◌&&◌, List, [], ◌∷◌, map, refl, arith}
+use Rattle.std.proofs.Common.{ℕ, ◌-◌, ◌<◌, min, Bool, true, false, List, [], ◌∷◌, map, arith}
 use Rattle.std.specs.List.{AllByRecursion}
 use Rattle.allocation.specs.Wheels.{Wheel}
 use Rattle.allocation.specs.ByTime.{shares_in_order}
@@ -11,11 +11,12 @@ use Rattle.rules.specs.declared.phases.Step.{Step}
 use Rattle.rules.specs.Lists.{last_alone}
 use Rattle.rules.specs.Books.{Level, queue, part, level}
 use Rattle.rules.specs.Quantities.{of_level, pieces, of_order}
-use Rattle.rules.specs.Changes.{lowered, lose, put}
+use Rattle.rules.specs.Changes.{lowered}
 use Rattle.rules.specs.TakingOff.{take_off_level, take_off_side}
 use Rattle.rules.specs.Trading.{with_queue, queue_of, trade_price, step_shares, trade_reached, trade_side}
-use Rattle.rules.specs.Reserve.{join_hidden, runs_low, shows_two, raised, show_anew}
+use Rattle.rules.specs.Reserve.{join_hidden, show_anew}
 use Rattle.rules.specs.Invariants.{Orderly}
+use Rattle.rules.proofs.Renewed.{joined_by, anew_by}
 use Rattle.rules.proofs.Parts.{Steady, all_lowered, raised_all, lose_all, put_all, unmark_all}
 use Rattle.rules.proofs.Levels.{low_hides}
 use Rattle.rules.proofs.Orderly.{orderly_lowered, orderly_lost}
@@ -86,15 +87,9 @@ pub held_unmarked : (P : ℕ → Type 0) (l : Level) → Held P l → Held P (le
 held_unmarked P l h = (unmark_all (λ _. P l.price) (held_steady P l.price) l.shown.parts h.0, h.1)
 
 pub held_joined : (P : ℕ → Type 0) (lot n : ℕ) (l : Level) → Held P l → Held P (join_hidden lot n l)
-unfolding join_hidden
-held_joined P lot n l h = go (runs_low lot n l && shows_two n l)
-  where
-    xs : List ℕ
-    xs = last_alone (pieces n l.shown.parts)
-
-    go : (t : Bool) → Held P (cond t (level l.price (lose xs l.shown) (queue (raised n (sum xs) l.hidden.parts) l.hidden.wheel)) l)
-    go true = (lose_all (λ _. P l.price) (held_steady P l.price) xs l.shown h.0, raised_all (λ _. P l.price) (held_steady P l.price) n (sum xs) l.hidden.parts h.1)
-    go false = h
+held_joined P lot n l h =
+    let xs : List ℕ = last_alone (pieces n l.shown.parts) in
+    joined_by (Held P) lot n l h (λ _. (lose_all (λ _. P l.price) (held_steady P l.price) xs l.shown h.0, raised_all (λ _. P l.price) (held_steady P l.price) n (sum xs) l.hidden.parts h.1))
 
 -- some part has what all parts have
 pub of_some : (X : Type 0) (n : ℕ) (ps : List Part) → 0 < of_order n ps → AllByRecursion (λ (_ : Part). X) ps → X
@@ -102,15 +97,9 @@ of_some X n [] h a = let no_way : ⊥ = omega arith in absurd no_way
 of_some X n (p ∷ ps) h a = a.0
 
 pub held_shown_anew : (P : ℕ → Type 0) (lot : ℕ) (e : Order) (mark : Bool) (l : Level) → Held P l → Held P (show_anew lot e mark l)
-unfolding show_anew
-held_shown_anew P lot e mark l h = go (runs_low lot e.number l) refl
-  where
-    q : ℕ
-    q = min e.display (of_order e.number l.hidden.parts)
-
-    go : (t : Bool) → runs_low lot e.number l ≡ t → Held P (cond t (level l.price (put (part e.number e.participant q mark) l.shown) (lose (shares_in_order q (pieces e.number l.hidden.parts)) l.hidden)) l)
-    go true low = (
+held_shown_anew P lot e mark l h =
+    let q : ℕ = min e.display (of_order e.number l.hidden.parts) in
+    anew_by (Held P) lot e mark l (λ _. h) (λ low. (
       put_all (λ _. P l.price) (part e.number e.participant q mark) l.shown h.0 (of_some (P l.price) e.number l.hidden.parts (low_hides lot e.number l low) h.1),
       lose_all (λ _. P l.price) (held_steady P l.price) (shares_in_order q (pieces e.number l.hidden.parts)) l.hidden h.1,
-    )
-    go false low = h
+    ))

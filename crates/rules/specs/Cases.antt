@@ -8,10 +8,9 @@ use Rattle.rules.specs.declared.orders.Kind.{Kind}
 use Rattle.rules.specs.declared.phases.Step.TheVariants as Step
 use Rattle.rules.specs.declared.calls.Call.{Call}
 use Rattle.rules.specs.declared.calls.Call.TheVariants.{Open, Halt, Resume, Quote, Enter, Cancel}
-use Rattle.rules.specs.declared.answers.Answer.{Answer}
-use Rattle.rules.specs.declared.answers.Answer.TheVariants.{Accepted}
 use Rattle.rules.specs.declared.answers.Row.{Row}
 use Rattle.rules.specs.declared.answers.Row.TheVariants.{Trade, GivenBack}
+use Rattle.rules.specs.Codes.{Answer, accepted}
 use Rattle.rules.specs.Books.{Queue, Level, Ranking, Book, part, queue, level, no_seats, ranked_by}
 use Rattle.rules.specs.Rules.{new_book}
 use Rattle.rules.specs.Runs.{Ask, Event, run, final}
@@ -62,12 +61,12 @@ session =
 abbrev pub Session : Type 0
 Session =
     (what_came (history session)
-    ≡ ((Accepted 0 0, [])
-    ∷ (Accepted 0 0, [])
-    ∷ (Accepted 0 0, [])
-    ∷ (Accepted 0 0, [])
-    ∷ (Accepted 430 0, Trade Step.Setter 1 4 100000 300 ∷ Trade Step.Displayed 2 4 100000 100 ∷ Trade Step.Displayed 3 4 100000 30 ∷ [])
-    ∷ (Accepted 100 0, Trade Step.Displayed 2 5 100000 30 ∷ Trade Step.Displayed 3 5 100000 70 ∷ [])
+    ≡ ((accepted 0 0, [])
+    ∷ (accepted 0 0, [])
+    ∷ (accepted 0 0, [])
+    ∷ (accepted 0 0, [])
+    ∷ (accepted 430 0, Trade Step.Setter 1 4 100000 300 ∷ Trade Step.Displayed 2 4 100000 100 ∷ Trade Step.Displayed 3 4 100000 30 ∷ [])
+    ∷ (accepted 100 0, Trade Step.Displayed 2 5 100000 30 ∷ Trade Step.Displayed 3 5 100000 70 ∷ [])
     ∷ []))
     × (sides (ends session)
     ≡ (level 100000 (queue (part 2 7 120 false ∷ part 3 9 100 false ∷ []) (wheel_with (7 ∷ 9 ∷ []) 30)) (queue [] no_seats) ∷ [], []))
@@ -162,7 +161,7 @@ AwayBid =
 -- a buy at the away offer is given back, one below it rests
 abbrev pub AwayOffer : Type 0
 AwayOffer =
-    (what_came (history (buys_under 0 100100 100 100100)) ≡ ((Accepted 0 0, []) ∷ (Accepted 0 0, []) ∷ (Accepted 0 100, GivenBack 1 100 ∷ []) ∷ []))
+    (what_came (history (buys_under 0 100100 100 100100)) ≡ ((accepted 0 0, []) ∷ (accepted 0 0, []) ∷ (accepted 0 100, GivenBack 1 100 ∷ []) ∷ []))
     × (shown_and_hidden (ends (buys_under 0 100100 100 100000)) ≡ ((100 ∷ [], []) ∷ []))
 
 -- all of them

@@ -1,13 +1,12 @@
 -- The numbers and letters of the venue's words: each stands here, and nowhere else in the definitions. Assumes nothing.
-use Rattle.std.specs.Prelude.{ℕ}
+use Rattle.std.specs.Prelude.{ℕ, Ok, Err, Result}
 use Rattle.rules.specs.declared.orders.Side.{Side}
 use Rattle.rules.specs.declared.orders.Side.TheVariants.{Buy, Sell}
 use Rattle.rules.specs.declared.orders.Kind.{Kind}
 use Rattle.rules.specs.declared.orders.Category.{Category}
 use Rattle.rules.specs.declared.phases.Step.{Step}
 use Rattle.rules.specs.declared.answers.Refusal.{Refusal}
-use Rattle.rules.specs.declared.answers.Answer.{Answer}
-use Rattle.rules.specs.declared.answers.Answer.TheVariants.{Accepted, Refused}
+use Rattle.rules.specs.declared.answers.Accepted.{Accepted}
 use Rattle.allocation.specs.Rankings.{buyers_letter, sellers_letter}
 use Rattle.rules.specs.declared.answers.Row.{Row}
 use Rattle.rules.specs.declared.answers.Row.TheVariants.{Trade, GivenBack}
@@ -54,20 +53,32 @@ refusal_number Refusal.NoSuchOrder = 23
 refusal_number Refusal.ReductionTooLarge = 24
 refusal_number Refusal.NoOppositePrice = 25
 
+-- what a call answers
+abbrev pub Answer : Type 0
+Answer = Result Accepted Refusal
+
+-- an accepted call
+abbrev pub accepted : ℕ → ℕ → Answer
+accepted traded given_back = Ok (record { traded = traded; given_back = given_back })
+
+-- a refused call
+abbrev pub refused : Refusal → Answer
+refused r = Err r
+
 -- an accepted call answers 0
 abbrev pub answer_number : Answer → ℕ
-answer_number (Accepted traded given_back) = 0
-answer_number (Refused r) = refusal_number r
+answer_number (Ok a) = 0
+answer_number (Err r) = refusal_number r
 
 -- a refused call trades nothing and gives nothing back
 abbrev pub shares_traded : Answer → ℕ
-shares_traded (Accepted traded given_back) = traded
-shares_traded (Refused r) = 0
+shares_traded (Ok a) = a.traded
+shares_traded (Err r) = 0
 
 -- shares given back
 abbrev pub shares_given_back : Answer → ℕ
-shares_given_back (Accepted traded given_back) = given_back
-shares_given_back (Refused r) = 0
+shares_given_back (Ok a) = a.given_back
+shares_given_back (Err r) = 0
 
 -- ## Limits
 

@@ -5,10 +5,9 @@ use Rattle.rules.specs.declared.orders.Side.{Side}
 use Rattle.rules.specs.declared.orders.Kind.{Kind}
 use Rattle.rules.specs.declared.orders.Order.{Order}
 use Rattle.rules.specs.declared.orders.Part.{Part}
-use Rattle.rules.specs.declared.answers.Answer.{Answer}
-use Rattle.rules.specs.declared.answers.Answer.TheVariants.{Accepted}
 use Rattle.rules.specs.declared.answers.Row.{Row}
 use Rattle.rules.specs.declared.answers.Row.TheVariants.{GivenBack}
+use Rattle.rules.specs.Codes.{Answer, accepted}
 use Rattle.rules.specs.Books.{Level, Ranking, Book, part, good, side, other, away, with_side, with_last, with_orders}
 use Rattle.rules.specs.Changes.{put_shown, put_hidden}
 use Rattle.rules.specs.Marks.{earns_mark}
@@ -24,7 +23,7 @@ pub record Outcome : Type 0 where
 
 -- an accepted call
 abbrev pub done : ℕ → ℕ → List Row → Book → Outcome
-done traded given_back rs b = record { answer = Accepted traded given_back; rows = rs; book = b }
+done traded given_back rs b = record { answer = accepted traded given_back; rows = rs; book = b }
 
 -- ## Placing
 

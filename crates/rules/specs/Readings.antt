@@ -5,18 +5,17 @@ use Rattle.rules.specs.declared.orders.Side.TheVariants.{Buy, Sell}
 use Rattle.rules.specs.declared.orders.Kind.TheVariants as Kind
 use Rattle.rules.specs.declared.phases.Step.TheVariants as Step
 use Rattle.rules.specs.declared.calls.Call.TheVariants.{Open, Halt, Resume, Close, Quote, Reduce}
-use Rattle.rules.specs.declared.answers.Answer.{Answer}
-use Rattle.rules.specs.declared.answers.Answer.TheVariants.{Accepted, Refused}
 use Rattle.rules.specs.declared.answers.Refusal.{Refusal}
 use Rattle.rules.specs.declared.answers.Row.{Row}
 use Rattle.rules.specs.declared.answers.Row.TheVariants.{Trade, GivenBack}
+use Rattle.rules.specs.Codes.{Answer, accepted, refused}
 use Rattle.rules.specs.Rules.{new_book, make}
 use Rattle.rules.specs.Runs.{Ask, Event}
 use Rattle.rules.specs.Cases.{ask, enters, history, ends, wheels, marks, shown_and_hidden}
 
 -- the answer and the rows of the last call
 abbrev pub last_of : List Event → Answer × List Row
-last_of [] = (Accepted 0 0, [])
+last_of [] = (accepted 0 0, [])
 last_of (e ∷ []) = (e.did.answer, e.did.rows)
 last_of (e ∷ (f ∷ es)) = last_of (f ∷ es)
 
@@ -29,19 +28,19 @@ pub record Readings : Type 0 where
   -- The best price counts displayed shares at one price alone. 60 and 60 at two prices make none, so a market order is refused.
   pub odd_lots_make_no_best_price :
       comes_to (ask Open ∷ enters Buy Kind.Limit 1 5 60 0 100000 ∷ enters Buy Kind.Limit 2 7 60 0 99900 ∷ enters Sell Kind.Market 3 9 100 0 0 ∷ [])
-      ≡ (Refused Refusal.NoOppositePrice, [])
+      ≡ (refused Refusal.NoOppositePrice, [])
   -- An away price alone lets a market order in; it then trades with odd lots and hidden shares too.
   pub away_price_lets_market_orders_in :
       comes_to (ask Open ∷ ask (Quote 99900 0) ∷ enters Buy Kind.Limit 1 5 60 0 100000 ∷ enters Buy Kind.Hidden 2 7 70 0 99900 ∷ enters Sell Kind.Market 3 9 200 0 0 ∷ [])
-      ≡ (Accepted 130 70, Trade Step.Displayed 1 3 100000 60 ∷ Trade Step.Hidden 2 3 99900 70 ∷ GivenBack 3 70 ∷ [])
+      ≡ (accepted 130 70, Trade Step.Displayed 1 3 100000 60 ∷ Trade Step.Hidden 2 3 99900 70 ∷ GivenBack 3 70 ∷ [])
   -- A price equal to the away price is in reach, a worse one is not, though the limit would allow it.
   pub away_price_bounds_reach :
       comes_to (ask Open ∷ enters Buy Kind.Limit 1 5 100 0 100000 ∷ enters Buy Kind.Limit 2 7 100 0 99900 ∷ ask (Quote 100000 0) ∷ enters Sell Kind.Immediate 3 9 300 0 99900 ∷ [])
-      ≡ (Accepted 100 200, Trade Step.Setter 1 3 100000 100 ∷ GivenBack 3 200 ∷ [])
+      ≡ (accepted 100 200, Trade Step.Setter 1 3 100000 100 ∷ GivenBack 3 200 ∷ [])
   -- The setter step is taken only where the round lot is displayed when the arrival comes to the price: a marked part that is all that is left of it trades in the displayed step.
   pub no_setter_step_below_the_lot :
       comes_to (ask Open ∷ enters Buy Kind.Limit 1 5 150 0 100000 ∷ enters Sell Kind.Immediate 2 9 100 0 100000 ∷ enters Sell Kind.Immediate 3 9 20 0 100000 ∷ [])
-      ≡ (Accepted 20 0, Trade Step.Displayed 1 3 100000 20 ∷ [])
+      ≡ (accepted 20 0, Trade Step.Displayed 1 3 100000 20 ∷ [])
   -- Trades keep the mark, also below the round lot; a halt loses it, and a resume gives none back.
   pub marks_outlive_trades :
       marks (ends (ask Open ∷ enters Buy Kind.Limit 1 5 150 0 100000 ∷ enters Sell Kind.Immediate 2 9 100 0 100000 ∷ [])) ≡ ((100000, true ∷ []) ∷ [])
@@ -65,23 +64,23 @@ pub record Readings : Type 0 where
       ≡ ((40 ∷ 50 ∷ [], []) ∷ [])
   -- A limit that reaches the opposite away price is given back, hidden and reserve orders too.
   pub hidden_orders_do_not_lock_the_away_price :
-      comes_to (ask Open ∷ ask (Quote 0 100000) ∷ enters Buy Kind.Hidden 1 5 100 0 100000 ∷ []) ≡ (Accepted 0 100, GivenBack 1 100 ∷ [])
+      comes_to (ask Open ∷ ask (Quote 0 100000) ∷ enters Buy Kind.Hidden 1 5 100 0 100000 ∷ []) ≡ (accepted 0 100, GivenBack 1 100 ∷ [])
   -- A participant may trade with itself.
   pub self_trades_happen :
-      comes_to (ask Open ∷ enters Buy Kind.Limit 1 5 100 0 100000 ∷ enters Sell Kind.Limit 2 5 100 0 100000 ∷ []) ≡ (Accepted 100 0, Trade Step.Setter 1 2 100000 100 ∷ [])
+      comes_to (ask Open ∷ enters Buy Kind.Limit 1 5 100 0 100000 ∷ enters Sell Kind.Limit 2 5 100 0 100000 ∷ []) ≡ (accepted 100 0, Trade Step.Setter 1 2 100000 100 ∷ [])
   -- A refused enter does not spend its number, an accepted one does, even where nothing rests.
   pub numbers_are_spent_by_acceptance :
       map (λ e. e.did.answer) (history (ask Open ∷ enters Buy Kind.Limit 7 0 100 0 100000 ∷ enters Buy Kind.Immediate 7 5 100 0 100000 ∷ enters Buy Kind.Limit 7 5 100 0 100000 ∷ []))
-      ≡ (Accepted 0 0 ∷ (Refused Refusal.Participant ∷ (Accepted 0 100 ∷ (Refused Refusal.OldNumber ∷ []))))
+      ≡ (accepted 0 0 ∷ (refused Refusal.Participant ∷ (accepted 0 100 ∷ (refused Refusal.OldNumber ∷ []))))
   -- A reduction of all that rests is refused: that is a cancel.
   pub reductions_leave_something :
-      comes_to (ask Open ∷ enters Buy Kind.Limit 1 5 100 0 100000 ∷ ask (Reduce 1 100) ∷ []) ≡ (Refused Refusal.ReductionTooLarge, [])
+      comes_to (ask Open ∷ enters Buy Kind.Limit 1 5 100 0 100000 ∷ ask (Reduce 1 100) ∷ []) ≡ (refused Refusal.ReductionTooLarge, [])
   -- Prices from 10,000 up are multiples of 100; below, any will do.
   pub price_grid :
       map (λ e. e.did.answer) (history (ask Open ∷ enters Buy Kind.Limit 1 5 100 0 9999 ∷ enters Buy Kind.Limit 2 5 100 0 10000 ∷ enters Buy Kind.Limit 3 5 100 0 10050 ∷ []))
-      ≡ (Accepted 0 0 ∷ (Accepted 0 0 ∷ (Accepted 0 0 ∷ (Refused Refusal.Price ∷ []))))
+      ≡ (accepted 0 0 ∷ (accepted 0 0 ∷ (accepted 0 0 ∷ (refused Refusal.Price ∷ []))))
   -- The first refusal by number is answered: a bad price comes before a shut book.
   pub first_refusal_counts :
-      comes_to (ask Open ∷ ask Close ∷ enters Buy Kind.Limit 1 5 100 0 10050 ∷ []) ≡ (Refused Refusal.Price, [])
+      comes_to (ask Open ∷ ask Close ∷ enters Buy Kind.Limit 1 5 100 0 10050 ∷ []) ≡ (refused Refusal.Price, [])
   -- A round lot is 1 to 1,000.
   pub round_lots : (make 0 ≡ Err Refusal.RoundLot) × (make 1000 ≡ Ok (new_book 1000)) × (make 1001 ≡ Err Refusal.RoundLot)

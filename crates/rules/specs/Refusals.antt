@@ -1,5 +1,5 @@
 -- When a call is refused. Assumes nothing.
-use Rattle.std.specs.Prelude.{ℕ, ◌%◌, Bool, true, false, cond, not, ◌&&◌, ◌||◌, List, [], ◌∷◌, length, Some, None, Option, ◌==◌, nat_le, nat_lt}
+use Rattle.std.specs.Prelude.{ℕ, ◌%◌, Bool, true, false, cond, not, ◌&&◌, ◌||◌, List, [], ◌∷◌, length, Ok, Err, Result, Some, None, Option, ◌==◌, nat_le, nat_lt}
 use Rattle.rules.specs.declared.orders.Kind.{Kind}
 use Rattle.rules.specs.declared.orders.Order.{Order}
 use Rattle.rules.specs.declared.phases.Phase.{Phase}
@@ -16,6 +16,11 @@ use Rattle.rules.specs.Codes.{highest_number, most_participants, most_shares, hi
 abbrev pub first : List (Refusal × Bool) → Option Refusal
 first [] = None
 first (x ∷ xs) = cond x.1 (Some x.0) (first xs)
+
+-- passed, unless a refusal applies
+abbrev pub passed : Option Refusal → Result Unit Refusal
+passed None = Ok tt
+passed (Some r) = Err r
 
 -- low to high
 abbrev pub within : ℕ → ℕ → ℕ → Bool

@@ -6,10 +6,10 @@ use Rattle.rules.specs.declared.phases.Phase.{Phase}
 use Rattle.rules.specs.declared.phases.Step.{Step}
 use Rattle.rules.specs.declared.calls.Call.{Call}
 use Rattle.rules.specs.declared.calls.Call.TheVariants.{Open, Halt, Resume, Close, Quote, Enter, Cancel, Reduce}
-use Rattle.rules.specs.declared.answers.Answer.TheVariants.{Refused}
 use Rattle.rules.specs.declared.answers.Refusal.{Refusal}
 use Rattle.rules.specs.declared.answers.Row.{Row}
 use Rattle.rules.specs.declared.answers.Row.TheVariants.{Trade, GivenBack}
+use Rattle.rules.specs.Codes.{refused}
 use Rattle.rules.specs.Lists.{sum_of}
 use Rattle.rules.specs.Books.{Level, Ranking, Book, with_sides, with_phase, with_quote}
 use Rattle.rules.specs.Quantities.{resting}
@@ -80,7 +80,7 @@ settled p d = record { answer = d.answer; rows = d.rows; book = tidy (with_phase
 
 -- a refused call leaves the book as it was, and has no rows
 abbrev pub ruled : Option Refusal → Ranking → Deal → Book → Call → Outcome
-ruled (Some r) rank deal b c = record { answer = Refused r; rows = []; book = b }
+ruled (Some r) rank deal b c = record { answer = refused r; rows = []; book = b }
 ruled None rank deal b c = settled (next_phase b.phase (phase_after b.phase c)) (effect rank deal b c)
 
 -- every call, in every outcome, with a report of `room` rows

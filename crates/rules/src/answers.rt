@@ -1,11 +1,14 @@
 //! What a call answers: accepted or refused, shares traded and given back, and the rows of its report.
-ghost use Rattle.std.specs.Prelude.{◌≡◌};
+ghost use Rattle.std.specs.Prelude.{◌≡◌, [], ◌∷◌};
+ghost use Rattle.rules.specs.Refusals.{first, passed};
 ghost use Rattle.rules.specs.Codes.{refusal_number, answer_number, shares_traded, shares_given_back, row_columns};
 
 use super::Step;
+use std::error::Error;
+use std::fmt;
 
 /// Why a call, or the making of a book, is refused.
-#[derive(Clone, Copy)]
+#[derive(Clone, Copy, Debug, PartialEq, Eq, Hash)]
 pub enum Refusal {
     /// 1: the order number is not 1 to 999,999.
     OrderNumber,
@@ -37,17 +40,42 @@ pub enum Refusal {
     NoOppositePrice,
 }
 
-/// What a call answers.
-#[derive(Clone, Copy)]
-pub enum Answer {
-    /// 0: accepted, with the shares traded and given back.
-    Accepted { traded: u32, given_back: u32 },
-    /// Refused: nothing is traded or given back, and the book stays as it was.
-    Refused(Refusal),
+/// An accepted call, with the shares traded and given back.
+#[derive(Clone, Copy, Debug, PartialEq, Eq, Hash)]
+pub struct Accepted {
+    pub traded: u32,
+    pub given_back: u32,
+}
+
+/// What a call answers. A refused call trades nothing and gives nothing back, and the book stays as it was.
+pub type Answer = Result<Accepted, Refusal>;
+
+/// The answer's number: 0, or the refusal's.
+pub fn answer_code(answer: Answer) -> u8
+    ensures { result ≡ answer_number answer }
+{
+    match answer {
+        Ok(_) => 0,
+        Err(refusal) => refusal.code(),
+    }
+}
+
+/// The shares traded.
+pub fn traded(answer: Answer) -> u32
+    ensures { result ≡ shares_traded answer }
+{
+    answer.map_or(0, |accepted| accepted.traded)
+}
+
+/// The shares given back.
+pub fn given_back(answer: Answer) -> u32
+    ensures { result ≡ shares_given_back answer }
+{
+    answer.map_or(0, |accepted| accepted.given_back)
 }
 
 /// A row of a call's report.
-#[derive(Clone, Copy)]
+#[derive(Clone, Copy, Debug, PartialEq, Eq, Hash)]
 pub enum Row {
     /// A resting part traded with the arriving order.
     Trade {
@@ -65,7 +93,8 @@ pub enum Row {
 }
 
 /// The columns of a row's line: letter, step or `-`, the order named first, the arriving order, price and quantity.
-#[derive(Clone, Copy)]
+#[derive(Clone, Copy, Debug, PartialEq, Eq, Hash)]
+// Zeros and `-` for what is not there, as the columns of the output have them.
 pub struct Columns {
     pub letter: char,
     pub step: char,
@@ -75,12 +104,12 @@ pub struct Columns {
     pub quantity: u32,
 }
 
-impl Row {
-    /// What the row's line says. What is given back has no step, no arriving order and no price.
-    pub fn columns(self) -> Columns
-        ensures { result ≡ row_columns self }
-    {
-        match self {
+/// What a row's line says. What is given back has no step, no arriving order and no price.
+impl From<Row> for Columns {
+    ghost from_gives = { λ r c. c ≡ row_columns r };
+
+    fn from(row: Row) -> Columns {
+        match row {
             Row::Trade {
                 step,
                 resting,
@@ -107,12 +136,22 @@ impl Row {
     }
 }
 
-impl Refusal {
-    /// The refusal's number.
-    pub fn code(self) -> u8
-        ensures { result ≡ refusal_number self }
+impl Row {
+    // Landed names beside the conversions: `Columns::from(row)` reads no plainer.
+    /// What the row's line says.
+    pub fn columns(self) -> Columns
+        ensures { result ≡ row_columns self }
     {
-        match self {
+        Columns::from(self)
+    }
+}
+
+/// The refusal's number.
+impl From<Refusal> for u8 {
+    ghost from_gives = { λ r n. n ≡ refusal_number r };
+
+    fn from(refusal: Refusal) -> u8 {
+        match refusal {
             Refusal::OrderNumber => 1,
             Refusal::Participant => 2,
             Refusal::Quantity => 3,
@@ -131,43 +170,41 @@ impl Refusal {
     }
 }
 
-impl Answer {
-    /// The answer's number: 0, or the refusal's.
+impl Refusal {
+    /// The refusal's number.
     pub fn code(self) -> u8
-        ensures { result ≡ answer_number self }
+        ensures { result ≡ refusal_number self }
     {
-        match self {
-            Answer::Accepted {
-                traded: _,
-                given_back: _,
-            } => 0,
-            Answer::Refused(refusal) => refusal.code(),
-        }
+        u8::from(self)
     }
 
-    /// The shares traded.
-    pub fn traded(self) -> u32
-        ensures { result ≡ shares_traded self }
+    /// Refuses, where a limit is broken.
+    pub fn when(self, broken: bool) -> Result<(), Refusal>
+        ensures { result ≡ passed (first ((self, broken) ∷ [])) }
     {
-        match self {
-            Answer::Accepted {
-                traded,
-                given_back: _,
-            } => traded,
-            Answer::Refused(_) => 0,
-        }
-    }
-
-    /// The shares given back.
-    pub fn given_back(self) -> u32
-        ensures { result ≡ shares_given_back self }
-    {
-        match self {
-            Answer::Accepted {
-                traded: _,
-                given_back,
-            } => given_back,
-            Answer::Refused(_) => 0,
-        }
+        if broken { Err(self) } else { Ok(()) }
     }
 }
+
+impl fmt::Display for Refusal {
+    fn fmt<W: fmt::Write>(&self, f: &mut fmt::Formatter<W>) -> fmt::Result {
+        f.write_str(match self {
+            Refusal::OrderNumber => "the order number is not 1 to 999,999",
+            Refusal::Participant => "the participant is not 1 to 24",
+            Refusal::Quantity => "the quantity is not 1 to 500,000",
+            Refusal::Price => "the price is not allowed",
+            Refusal::DisplayQuantity => "the display quantity is not allowed",
+            Refusal::ReportRoom => "the report has room for fewer than 400 rows",
+            Refusal::AwayPrice => "an away price is above 99,999,999",
+            Refusal::RoundLot => "the round lot is not 1 to 1,000",
+            Refusal::Phase => "the phase of the book does not allow the call",
+            Refusal::OldNumber => "the order number is not above the last accepted one",
+            Refusal::BookFull => "128 orders rest",
+            Refusal::NoSuchOrder => "no such order rests",
+            Refusal::ReductionTooLarge => "the reduction is not below what rests",
+            Refusal::NoOppositePrice => "no opposite price for a market order",
+        })
+    }
+}
+
+impl Error for Refusal {}

@@ -2,7 +2,7 @@
 use super::Order;
 
 /// A call of the book.
-#[derive(Clone, Copy)]
+#[derive(Clone, Copy, Debug, PartialEq, Eq, Hash)]
 pub enum Call {
     /// A new book opens.
     Open,
@@ -12,6 +12,7 @@ pub enum Call {
     Resume,
     /// The book shuts, and every order is given back.
     Close,
+    // A number, as the session's columns have it: a wrong one must be refused by its number.
     /// The prices quoted away from this venue; 0 means none.
     Quote { bid: u32, offer: u32 },
     /// An order arrives, trades, and rests or is given back.

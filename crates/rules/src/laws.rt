@@ -18,5 +18,5 @@ pub fn readings_come_out()
 
 /// The laws of every run of calls, for every ranking and every dealing.
 pub fn laws_hold<R: Ranking, D: Dealing>()
-    ensures { Laws (ranked_by R.Ranking.initial R.Ranking.good) D.Dealing.meaning }
+    ensures { Laws (ranked_by R.initial R.good) D.meaning }
 {}

@@ -7,7 +7,7 @@ mod laws;
 mod orders;
 mod phases;
 
-pub use answers::{Answer, Columns, Refusal, Row};
+pub use answers::{Accepted, Answer, Columns, Refusal, Row, answer_code, given_back, traded};
 pub use calls::Call;
 pub use laws::{cases_come_out, laws_hold, readings_come_out};
 pub use orders::{Category, Kind, Order, Part, Side};

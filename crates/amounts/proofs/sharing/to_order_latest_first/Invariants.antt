@@ -1,12 +1,7 @@
-use Rattle.std.proofs.Common.{◌≡◌, ◌-◌, ◌≤◌, length, drop}
-use Rattle.allocation.specs.Dealings.{sum}
-use Rattle.rules.specs.Quantities.{pieces}
-use Rattle.amounts.proofs.Loops.{late}
+use Rattle.std.proofs.Common.{◌≡◌}
+use Rattle.rules.specs.Quantities.{of_part}
+use Rattle.amounts.proofs.Loops.{FromBack}
 use Rattle.amounts.proofs.sharing.to_order_latest_first.Given as goal
 
 abbrev pub invariant-loop-i : goal.invariant-loop-i
-invariant-loop-i l =
-    (drop l.i l.shares ≡ late l.quantity (pieces l.order (drop l.i l.parts))) × (l.left ≡ l.quantity - sum (pieces l.order (drop l.i l.parts))) × (l.i ≤ length l.parts)
-
-abbrev pub decreases-loop-i : goal.decreases-loop-i
-decreases-loop-i l = l.i
+invariant-loop-i l = FromBack (of_part l.order) l.parts l.quantity l.i-iterator.iter.iter.rest.now l.left l.shares × (l.i-iterator.iter.count ≡ 0)

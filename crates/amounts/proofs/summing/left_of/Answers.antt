@@ -1,11 +1,9 @@
-use Rattle.std.proofs.Common.{◌+◌, ◌-◌, drop, ap, ◌∙◌}
-use Rattle.allocation.specs.Dealings.{sum}
-use Rattle.amounts.proofs.Loops.{sum_more, sum_all}
+use Rattle.std.proofs.Common.{rules, ◌≡◌, ◌-◌, fold, sym, ap, ◌∙◌}
+use Rattle.std.proofs.iter.runs.Made.{chains}
+use Rattle.amounts.proofs.Loops.{fold_less, sum_is}
 use Rattle.amounts.proofs.summing.left_of.Goals as goal
 
-pub loop-x-preserved : goal.loop-x-preserved
-loop-x-preserved c =
-    ap (λ n. n - sum (drop (c.loop-x.x-index + 1) c.args.shares.now)) c.saturating_sub-left.ensures ∙ sum_more c.args.shares.now c.loop-x.x-index c.loop-x.left c.args.quantity c.loop-x-test.true c.loop-x.invariant
-
 pub returns : goal.returns
-returns c = sum_all c.args.shares.now c.loop-x.x-index c.loop-x.left c.args.quantity c.loop-x-test.false c.loop-x.invariant
+returns c =
+    let folded : c.fold.result ≡ fold (λ left x. left - x) c.args.quantity c.args.shares.now = search (rules, chains) in
+    folded ∙ fold_less (λ x. x) c.args.shares.now c.args.quantity ∙ ap (λ n. c.args.quantity - n) (sym (sum_is c.args.shares.now))
