@@ -1,6 +1,6 @@
 -- What holds of the memory of every side. Assumes nothing.
 use Rattle.std.proofs.Common.{◌≡◌, ℕ, zero, suc, ◌+◌, ◌<◌, ◌≤◌, List, [], ◌∷◌, length, get_or, take, drop, sym, ap, ◌∙◌, arith}
-use Rattle.std.proofs.lemmas.List.{get_or_default}
+use Rattle.std.proofs.lemmas.List.{get_or_default, get_or-take, length-take}
 use Rattle.arrays.specs.Items.{items}
 use Rattle.arrays.proofs.Bounds.{length_items}
 use Rattle.rules.specs.Books.{Level}
@@ -37,3 +37,9 @@ module _ (s : Levels) where
   -- a head that was read, whatever stands past the last
   pub head_is : (i : ℕ) (q d : LevelHead) → i < length (levels_of s) → q ≡ get_or (items s.heads) i q → q ≡ get_or (items s.heads) i d
   head_is i q d lt read = read ∙ get_or_default (items s.heads) i q d (omega (arith, prices))
+
+-- what is read in the front of the heads
+pub in_front : {X : Type 0} (xs ys : List X) (i k : ℕ) (q : X) → xs ≡ ys → i ≤ length ys → k < length (take i xs) → q ≡ get_or (take i xs) k q → (k < i) × (q ≡ get_or ys k q)
+in_front xs ys i k q same le lt read =
+    let below : k < i = omega (arith, lt, length-take i xs) in
+    (below, read ∙ get_or-take i xs k q below ∙ ap (λ l. get_or l k q) same)

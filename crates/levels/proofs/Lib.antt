@@ -1,4 +1,3 @@
-mod Loops
 pub mod Bounded
 mod Stretches
 pub mod Flat
@@ -6,3 +5,4 @@ mod Places
 mod Laws
 pub mod Facts
 mod Lowering
+mod Firsts

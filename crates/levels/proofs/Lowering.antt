@@ -1,11 +1,10 @@
 -- A loop that lowers parts in place. Assumes nothing.
-use Rattle.std.proofs.Common.{◌≡◌, ℕ, ◌+◌, ◌-◌, ◌<◌, ◌≤◌, List, [], ◌∷◌, ◌++◌, length, get_or, take, drop, set, sym, refl, ap, ◌∙◌, append_assoc, append-nil, arith}
+use Rattle.std.proofs.Common.{◌≡◌, ℕ, ◌+◌, ◌-◌, ◌<◌, ◌≤◌, List, [], ◌∷◌, ◌++◌, length, get_or, take, drop, set, sym, ap, ◌∙◌, append_assoc, append-nil, arith}
 use Rattle.std.proofs.lemmas.List.{take_more_set, drop-set-lt, drop-drop, length-set, length-take, length-drop, length-append, drop_more, get_or-drop, get_or-take, drop_all}
 use Rattle.std.proofs.lemmas.Bool.{le-leb, lt-leb}
 use Rattle.rules.specs.Books.{part}
 use Rattle.rules.specs.Changes.{lowered}
 use Rattle.rules.specs.declared.orders.Part.{Part}
-use Rattle.levels.specs.Splices.{spliced}
 
 -- ys began am xs; of the n parts from `at` on, j are done, and what stays of them stands before k
 pub record Lowering (xs ys : List Part) (am : List ℕ) (at n k j : ℕ) : Type 0 where
@@ -15,9 +14,6 @@ pub record Lowering (xs ys : List Part) (am : List ℕ) (at n k j : ℕ) : Type 
   pub from : at ≤ k
   pub behind : k ≤ at + j
   pub within : j ≤ n
-
-pub lowering_none : (xs : List Part) (am : List ℕ) (at n : ℕ) → Lowering xs xs am at n at 0
-lowering_none xs am at n = record { front = refl; rest = refl; long = refl; from = omega arith; behind = omega arith; within = omega arith }
 
 module _ {xs ys : List Part} {am : List ℕ} {at n k j : ℕ} {p : Part} (o : Lowering xs ys am at n k j) (lt : j < n) (fits : at + n ≤ length xs) (each : length am ≡ n) (read : p ≡ get_or ys (at + j) p) where
   here : drop j (take n (drop at xs)) ≡ p ∷ drop (j + 1) (take n (drop at xs))
@@ -71,13 +67,6 @@ module _ {xs ys : List Part} {am : List ℕ} {at n k j : ℕ} (o : Lowering xs y
   done =
       let none : drop j (take n (drop at xs)) ≡ [] = drop_all j (take n (drop at xs)) (omega (arith, length-take n (drop at xs))) in
       sym (append-nil (take k ys)) ∙ ap (λ l. take k ys ++ lowered l (drop j am)) (sym none) ∙ o.front
-
-  pub lowering_all : take k ys ++ drop (at + n) ys ≡ spliced xs at (at + n) (lowered (take n (drop at xs)) am)
-  lowering_all =
-      let is : j ≡ n = omega (arith, o.within) in
-      ap (λ l. l ++ drop (at + n) ys) done
-      ∙ append_assoc (take at xs) (lowered (take n (drop at xs)) am) (drop (at + n) ys)
-      ∙ ap (λ l. take at xs ++ (lowered (take n (drop at xs)) am ++ l)) (ap (λ m. drop (at + m) ys) (sym is) ∙ o.rest ∙ ap (λ m. drop (at + m) xs) is)
 
   pub lowering_count : k - at ≡ length (lowered (take n (drop at xs)) am)
   lowering_count =

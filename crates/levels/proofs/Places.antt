@@ -1,13 +1,24 @@
 -- A price is found or made at its place. Assumes nothing.
-use Rattle.std.proofs.Common.{◌≡◌, ℕ, zero, suc, ◌+◌, ◌<◌, ◌≤◌, Bool, true, false, eqb, List, [], ◌∷◌, ◌++◌, length, get_or, take, drop, set, sym, refl, ap, ◌∙◌, ⊎_elim, append_assoc, arith}
-use Rattle.std.specs.List.{insert}
-use Rattle.std.proofs.lemmas.List.{take_more, at_drop_more, set_split, set_at, get_or_at, length-take-le, drop-drop, get_or-drop}
+use Rattle.std.proofs.Common.{one-add, ◌≡◌, ℕ, zero, suc, ◌+◌, ◌<◌, ◌≤◌, Bool, true, false, not, cond, eqb, List, [], ◌∷◌, ◌++◌, length, get_or, take, drop, set, sym, refl, ap, ◌∙◌, ⊎_elim, arith}
+use Rattle.std.specs.List.{insert, position_or_len}
+use Rattle.std.proofs.lemmas.List.{set_split, set_at, get_or_at, length-take-le, drop-drop, get_or-drop}
 use Rattle.std.proofs.lemmas.Bool.{cases_Bool, eqb-true, cond_both, both_ways}
 use Rattle.allocation.specs.Rankings.{TotalOrder}
 use Rattle.rules.specs.Books.{Level, Ranking, good, same_side, nothing_at}
 use Rattle.rules.specs.Changes.{on_price}
 use Rattle.rules.specs.declared.orders.Side.{Side}
 use Rattle.levels.specs.Prices.{first_at, no_better}
+
+-- the place of the first level that is no better than a price
+abbrev pub spot : Ranking → Side → ℕ → List Level → ℕ
+spot rank s v = position_or_len (λ l. good rank s v l.price)
+
+pub stops : (rank : Ranking) (s : Side) (v : ℕ) (ls : List Level) → no_better rank s v (drop (spot rank s v ls) ls) ≡ true
+stops rank s v [] = refl
+stops rank s v (l ∷ ls) = by (good rank s v l.price) refl (stops rank s v ls) where
+  by : (b : Bool) → good rank s v l.price ≡ b → no_better rank s v (drop (spot rank s v ls) ls) ≡ true → no_better rank s v (drop (cond (not b) (1 + spot rank s v ls) 0) (l ∷ ls)) ≡ true
+  by true e rest = e
+  by false e rest = rw one-add rest
 
 module _ (rank : Ranking) (s : Side) (v : ℕ) (f : Level → Level) (same : (w : ℕ) → good rank s w w ≡ true) where
   skip : (l : Level) (ls : List Level) → good rank s v l.price ≡ false → on_price rank s v f (l ∷ ls) ≡ l ∷ on_price rank s v f ls
@@ -16,14 +27,14 @@ module _ (rank : Ranking) (s : Side) (v : ℕ) (f : Level → Level) (same : (w 
       let away : eqb l.price v ≡ false = ⊎_elim (λ e. absurd (both_ways (good rank s v l.price) worse (ap (good rank s v) (eqb-true l.price v e) ∙ same v))) (λ e. e) (cases_Bool (eqb l.price v)) in
       rw (away, worse)
 
-  pub skip_more : (ls : List Level) (i : ℕ) (d : Level) → i < length ls → good rank s v (get_or ls i d).price ≡ false
-      → on_price rank s v f ls ≡ take i ls ++ on_price rank s v f (drop i ls)
-      → on_price rank s v f ls ≡ take (i + 1) ls ++ on_price rank s v f (drop (i + 1) ls)
-  skip_more ls i d lt worse so =
-      so
-      ∙ ap (λ l. take i ls ++ l) (at_drop_more (on_price rank s v f) ls i d lt ∙ skip (get_or ls i d) (drop (i + 1) ls) worse)
-      ∙ sym (append_assoc (take i ls) (get_or ls i d ∷ []) (on_price rank s v f (drop (i + 1) ls)))
-      ∙ ap (λ l. l ++ on_price rank s v f (drop (i + 1) ls)) (sym (take_more ls i d lt))
+  -- the levels before the first that is no better stay as they are
+  pub skips : (ls : List Level) → on_price rank s v f ls ≡ take (spot rank s v ls) ls ++ on_price rank s v f (drop (spot rank s v ls) ls)
+  skips [] = refl
+  skips (l ∷ ls) = by (good rank s v l.price) refl (skips ls) where
+    by : (b : Bool) → good rank s v l.price ≡ b → on_price rank s v f ls ≡ take (spot rank s v ls) ls ++ on_price rank s v f (drop (spot rank s v ls) ls)
+        → on_price rank s v f (l ∷ ls) ≡ take (cond (not b) (1 + spot rank s v ls) 0) (l ∷ ls) ++ on_price rank s v f (drop (cond (not b) (1 + spot rank s v ls) 0) (l ∷ ls))
+    by true e rest = refl
+    by false e rest = rw one-add (skip l ls e ∙ ap (λ x. l ∷ x) rest)
 
   found : (ls : List Level) (d : Level) → first_at v ls ≡ true → on_price rank s v f ls ≡ f (get_or ls 0 d) ∷ drop 1 ls
   unfolding on_price

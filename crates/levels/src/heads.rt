@@ -3,8 +3,6 @@ use allocation::Wheel;
 
 mod queues;
 
-pub use queues::NewQueue;
-
 /// The head of a queue: how many parts the queue has, and its wheel.
 #[derive(Clone, Copy)]
 pub struct QueueHead {

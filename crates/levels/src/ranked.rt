@@ -7,23 +7,19 @@ use rules::Side;
 
 /// Whether the side is the one of the ranking's letter.
 fn owns<K: Ranking>(side: Side) -> bool
-    ensures { result ≡ same_side side (ranked_by K.Ranking.initial K.Ranking.good).letter }
+    ensures { result ≡ same_side side (ranked_by K.initial K.good).letter }
 {
-    let buys = K::initial() == 'B';
-    match side {
-        Side::Buy => buys,
-        Side::Sell => !buys,
-    }
+    side.letter() == K::initial()
 }
 
 /// Whether `a` is at least as good as `b` on a side: the side of the ranking's letter uses the ranking as it is,
 /// the other one turns it round.
 pub fn at_least<K: Ranking>(side: Side, a: u32, b: u32) -> bool
-    ensures { result ≡ good (ranked_by K.Ranking.initial K.Ranking.good) side a b }
+    ensures { result ≡ good (ranked_by K.initial K.good) side a b }
 {
     if owns::<K>(side) {
         K::at_least(a, b)
     } else {
-        K::at_least(b, a)
+        K::at_least_opposite(a, b)
     }
 }

@@ -21,6 +21,7 @@ pub const PARTS: usize = 384;
 /// One level more than parts, since a new level stands empty for a moment.
 pub const LEVELS: usize = 385;
 
+// A level is named by its place, like an item of a slice: a cursor that borrows the side would be made anew for each call, which is no plainer.
 /// The price levels of one side, best price first. Their parts stand in one run:
 /// those of a better price first, and at a price the displayed queue before the hidden one.
 #[derive(Drop)]

@@ -1,2 +1,1 @@
-mod Fronted
 pub mod Taken

@@ -10,12 +10,18 @@ use Rattle.rules.specs.declared.answers.Row.{Row}
 use Rattle.rules.specs.declared.answers.Row.TheVariants.{Trade}
 use Rattle.rules.specs.declared.phases.Step.TheVariants.{Setter}
 use Rattle.rules.specs.declared.orders.Order.{Order}
+use Rattle.rules.specs.declared.orders.Side.TheVariants.{Buy}
+use Rattle.rules.specs.declared.orders.Kind.TheVariants.{Limit}
 use Rattle.orders.specs.declared.tables.Resting.{Resting}
 use Rattle.orders.specs.Rows.{less}
 use Rattle.orders.specs.Deducted.{takes, taken_from, deducted_by, deducted}
 
 abbrev pub orders_in : List Resting → List Order
 orders_in = map (λ r. r.order)
+
+-- a row without an order
+abbrev pub blank : Resting
+blank = record { order = record { number = 0; participant = 0; side = Buy; kind = Limit; quantity = 0; display = 0; price = 0 }; quantity = 0 }
 
 -- what stands where no row does
 abbrev pub no_row : Row
@@ -27,10 +33,9 @@ less_none r = let same : r.quantity - 0 ≡ r.quantity = omega arith in ap (λ (
 -- ## One row
 
 -- an order that the table has is found in it
-pub found_within : (n : ℕ) (rs : List Resting) (i : ℕ) → i ≤ length rs → AllByRecursion (λ x. (x.order.number ≡ n → ⊥)) (take i rs) → has n (numbers (orders_in rs)) ≡ true → i < length rs
-found_within n [] i le a h = absurd (false≢true h)
-found_within n (r ∷ rs) zero le a h = omega arith
-found_within n (r ∷ rs) (suc i) le a h = omega (arith, found_within n rs i (omega arith) a.1 (rw (ne_eqb r.order.number n a.0) at h))
+pub never_missing : (n : ℕ) (rs : List Resting) → AllByRecursion (λ x. (x.order.number ≡ n → ⊥)) rs → has n (numbers (orders_in rs)) ≡ true → ⊥
+never_missing n [] a h = false≢true h
+never_missing n (r ∷ rs) a h = never_missing n rs a.1 (rw (ne_eqb r.order.number n a.0) at h)
 
 -- nothing is taken from rows of other orders
 other_rows : (n q : ℕ) (rs : List Resting) → has n (numbers (orders_in rs)) ≡ false → map (λ r. less r (cond (eqb n r.order.number) q 0)) rs ≡ rs
@@ -90,9 +95,6 @@ pub record Deducting (xs : List Row) (i : ℕ) (before now : List Resting) : Typ
   pub whole : deducted (drop i xs) now ≡ deducted xs before
   pub orders : orders_in now ≡ orders_in before
   pub enough : AllByRecursion (λ r. taken_from r.order.number (drop i xs) ≤ r.quantity) now
-
-pub deducting_start : (xs : List Row) (rs : List Resting) → AllByRecursion (λ r. taken_from r.order.number xs ≤ r.quantity) rs → Deducting xs 0 rs rs
-deducting_start xs rs a = record { whole = refl; orders = refl; enough = a }
 
 pub deducting_enough : {xs : List Row} {i : ℕ} {before now : List Resting} (d : Row) → Deducting xs i before now → i < length xs → AllByRecursion (λ r. takes r.order.number (get_or xs i d) ≤ r.quantity) now
 deducting_enough {xs} {i} {before} {now} d s lt =

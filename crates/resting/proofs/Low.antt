@@ -2,7 +2,6 @@
 use Rattle.std.proofs.Common.{◌≡◌, ℕ, zero, suc, ◌<◌, ◌≤◌, min, Bool, true, false, cond, ◌&&◌, List, [], ◌∷◌, length, get_or, set, sym, refl, ap, ◌∙◌, arith}
 use Rattle.std.proofs.lemmas.Bool.{eq-eqb}
 use Rattle.std.proofs.lemmas.Bool.Decides.{nat_tests}
-use Rattle.std.specs.List.{AllByRecursion}
 use Rattle.std.proofs.lemmas.List.{set-get_or}
 use Rattle.allocation.specs.Dealings.{total, sum}
 use Rattle.allocation.specs.ByTime.{shares_in_order}
@@ -62,11 +61,6 @@ show_none lot e mark l h = rw h
 pub show_some : (lot : ℕ) (e : Order) (mark : Bool) (l : Level) → runs_low lot e.number l ≡ true → less_hidden e.number (min e.display (of_order e.number l.hidden.parts)) (new_shown e mark l) ≡ show_anew lot e mark l
 unfolding show_anew
 show_some lot e mark l h = rw h
-
-pub all_at : {X : Type 0} (P : X → Type 0) (xs : List X) (k : ℕ) (d : X) → AllByRecursion P xs → k < length xs → P (get_or xs k d)
-all_at P [] k d a lt = absurd (omega arith)
-all_at P (x ∷ xs) zero d a lt = a.0
-all_at P (x ∷ xs) (suc k) d a lt = all_at P xs k d a.1 (omega arith)
 
 -- a level that stays as it was
 pub same_level : (ls : List Level) (i : ℕ) (d : Level) (f : Level → Level) → f (get_or ls i d) ≡ get_or ls i d → ls ≡ set ls i (f (get_or ls i d))

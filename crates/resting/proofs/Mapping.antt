@@ -1,6 +1,6 @@
 -- A list mapped in place, from its front. Assumes nothing.
-use Rattle.std.proofs.Common.{◌≡◌, ℕ, zero, suc, ◌+◌, ◌<◌, ◌≤◌, List, [], ◌∷◌, ◌++◌, map, length, get_or, take, drop, set, sym, refl, ap, ◌∙◌, append-nil, arith}
-use Rattle.std.proofs.lemmas.List.{take_all, drop_all, get_or-set_same, set-set}
+use Rattle.std.proofs.Common.{◌≡◌, ℕ, zero, suc, ◌+◌, ◌<◌, List, [], ◌∷◌, ◌++◌, map, length, get_or, take, drop, set, sym, refl, ap, ◌∙◌, arith}
+use Rattle.std.proofs.lemmas.List.{get_or-set_same, set-set}
 use Rattle.rules.specs.Books.{Level, level, queue}
 use Rattle.rules.specs.declared.orders.Part.{Part}
 use Rattle.resting.specs.Unmarked.{plain}
@@ -15,9 +15,6 @@ mapped_more f (x ∷ xs) zero d lt = refl
 mapped_more f (x ∷ xs) (suc k) d lt =
     let up : suc k + 1 ≡ suc (k + 1) = omega arith in
     ap (λ l. f x ∷ l) (mapped_more f xs k d (omega arith)) ∙ ap (λ n. mapped f n (x ∷ xs)) (sym up)
-
-pub mapped_all : {X : Type 0} (f : X → X) (xs : List X) (k : ℕ) → length xs ≤ k → mapped f k xs ≡ map f xs
-mapped_all f xs k le = ap (λ l. map f (take k xs) ++ l) (drop_all k xs le) ∙ append-nil (map f (take k xs)) ∙ ap (map f) (take_all k xs le)
 
 pub length_mapped : {X : Type 0} (f : X → X) (xs : List X) (k : ℕ) → length (mapped f k xs) ≡ length xs
 length_mapped f [] zero = refl

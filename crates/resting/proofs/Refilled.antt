@@ -2,6 +2,7 @@
 use Rattle.std.proofs.Common.{◌≡◌, ℕ, zero, suc, ◌+◌, ◌-◌, ◌<◌, ◌≤◌, Bool, true, false, cond, ◌&&◌, eqb, leb, List, [], ◌∷◌, length, get_or, refl, ap, arith}
 use Rattle.allocation.specs.Dealings.{sum}
 use Rattle.rules.specs.declared.orders.Side.{Side}
+use Rattle.rules.specs.declared.orders.Order.{Order}
 use Rattle.rules.specs.declared.orders.Part.{Part}
 use Rattle.rules.specs.Lists.{last_alone}
 use Rattle.rules.specs.Books.{Level, Ranking, good, nothing_at, part, level, queue}
@@ -9,6 +10,7 @@ use Rattle.rules.specs.Changes.{lowered, lose, on_price}
 use Rattle.rules.specs.Quantities.{pieces, of_level, of_side}
 use Rattle.rules.specs.Reserve.{raised, runs_low, shows_two, join_hidden}
 use Rattle.levels.specs.Heads.{count}
+use Rattle.resting.specs.Replenished.{RoomToShow}
 
 pub level_of_side : (n : ℕ) (ls : List Level) (i : ℕ) (d : Level) → i < length ls → of_level n (get_or ls i d) ≤ of_side n ls
 level_of_side n [] i d lt = absurd (omega arith)
@@ -68,3 +70,7 @@ join_few lot n l = go (runs_low lot n l && shows_two n l)
     go : (t : Bool) → parts_in (cond t (level l.price (lose xs l.shown) (queue (raised n (sum xs) l.hidden.parts) l.hidden.wheel)) l) ≤ parts_in l
     go true = omega (arith, length_lowered l.shown.parts xs, length_raised n (sum xs) l.hidden.parts)
     go false = omega arith
+
+-- where a side has room for a part more in any case, it has room where the order runs low
+pub room_to_show : (rank : Ranking) (lot : ℕ) (e : Order) (ls : List Level) → count ls < 384 → RoomToShow rank lot e ls
+room_to_show rank lot e ls room = λ low. omega (arith, room, count_on_price rank e.side e.price (join_hidden lot e.number) (join_few lot e.number) ls)

@@ -1,5 +1,5 @@
 -- Replenishing at the place of the order's price. Assumes nothing.
-use Rattle.std.proofs.Common.{◌≡◌, ℕ, zero, suc, ◌<◌, ◌≤◌, min, Bool, true, false, cond, ◌&&◌, ◌||◌, eqb, ltb, List, [], ◌∷◌, length, get_or, set, sym, refl, ap, ◌∙◌, arith}
+use Rattle.std.proofs.Common.{◌≡◌, ℕ, zero, suc, ◌<◌, ◌≤◌, min, Bool, true, false, cond, ◌&&◌, ◌||◌, eqb, ltb, List, [], ◌∷◌, length, get_or, set, Option, sym, refl, ap, ◌∙◌, arith}
 use Rattle.std.proofs.lemmas.Bool.{eq-eqb, lt-ltb, ltb-true, and_parts}
 use Rattle.std.proofs.lemmas.Bool.Decides.{nat_tests}
 use Rattle.std.proofs.lemmas.List.{set-get_or}
@@ -41,7 +41,7 @@ any_at t (x ∷ xs) (suc i) d lt h = rw (any_at t xs i d (omega arith) h) (or_ye
     or_yes false = refl
 
 -- the order's price is found at i of ms: both changes are made there
-pub replenished_at : (rank : Ranking) (lot away : ℕ) (e : Order) (ls ms : List Level) (i : ℕ) (d : Level) → ((f : Level → Level) → on_price rank e.side e.price f ls ≡ set ms i (f (get_or ms i d)))
+pub replenished_at : (rank : Ranking) (lot : ℕ) (away : Option ℕ) (e : Order) (ls ms : List Level) (i : ℕ) (d : Level) → ((f : Level → Level) → on_price rank e.side e.price f ls ≡ set ms i (f (get_or ms i d)))
     → (mark : Bool) → mark ≡ earned rank e.side e.price (min e.display (hidden_of e.number (joined rank lot e ls))) lot away (joined rank lot e ls)
     → set ms i (show_anew lot e mark (join_hidden lot e.number (get_or ms i d))) ≡ replenished rank lot away e ls
 replenished_at rank lot away e ls ms i d finds mark is =
@@ -50,7 +50,7 @@ replenished_at rank lot away e ls ms i d finds mark is =
     ∙ ap (λ m. on_price rank e.side e.price (show_anew lot e m) (joined rank lot e ls)) is
 
 -- where it does not run low, nothing changes
-pub replenished_not : (rank : Ranking) (lot away : ℕ) (e : Order) (ls ms : List Level) (i : ℕ) (d : Level) → ((f : Level → Level) → on_price rank e.side e.price f ls ≡ set ms i (f (get_or ms i d)))
+pub replenished_not : (rank : Ranking) (lot : ℕ) (away : Option ℕ) (e : Order) (ls ms : List Level) (i : ℕ) (d : Level) → ((f : Level → Level) → on_price rank e.side e.price f ls ≡ set ms i (f (get_or ms i d)))
     → runs_low lot e.number (get_or ms i d) ≡ false → ms ≡ replenished rank lot away e ls
 replenished_not rank lot away e ls ms i d finds low =
     let l : Level = get_or ms i d in

@@ -1,19 +1,36 @@
 -- Looking through the levels of a side. Assumes nothing.
-use Rattle.std.proofs.Common.{◌≡◌, ℕ, ◌+◌, ◌<◌, true, false, ◌&&◌, eqb, leb, List, length, get_or, drop, Some, sym, ◌∙◌}
+use Rattle.std.proofs.Common.{◌≡◌, ℕ, Bool, true, false, cond, leb, List, [], ◌∷◌, length, length-drop, get_or, drop, Some, refl, sym, ap, ◌∙◌, arith}
+use Rattle.std.specs.List.{list_any, find}
+use Rattle.std.specs.Option.{option_map}
+use Rattle.std.proofs.iter.Yields.{nat_range_steps}
+use Rattle.std.proofs.lemmas.Iterator.{YieldsList}
+use Rattle.std.proofs.lemmas.Iterator.Splits.{YieldsList-from_shown_while}
 use Rattle.std.proofs.lemmas.List.{at_drop_more}
 use Rattle.rules.specs.Lists.{any}
 use Rattle.rules.specs.Books.{Level}
 use Rattle.rules.specs.Quantities.{displayed, best}
-use Rattle.rules.specs.Marks.{mark_at}
 
-pub best_here : (lot : ℕ) (ls : List Level) (i : ℕ) (d : Level) → i < length ls → leb lot (displayed (get_or ls i d)) ≡ true → best lot (drop i ls) ≡ Some (get_or ls i d).price
-best_here lot ls i d lt h = at_drop_more (best lot) ls i d lt ∙ rw h
+-- a range over the places of a list gives its members, each read at its place
+pub by_place : {X : Type 0} (xs : List X) (d : X) (n : ℕ) → n ≡ length xs → YieldsList nat_range_steps (λ i. get_or xs i d) (record { start = 0; end = n }) xs
+by_place xs d n all = YieldsList-from_shown_while nat_range_steps (λ i. get_or xs i d) (λ s. drop s.start xs) (λ s. s.end ≡ length xs)
+    (λ s t end k. omega (arith, length-drop s.start xs, end, k.1.0))
+    (λ s i t end k. (
+      k.0 ∙ end,
+      at_drop_more (λ l. l) xs s.start d (omega (arith, end, k.1.0)) ∙ ap (λ j. get_or xs s.start d ∷ drop j xs) (sym k.1.2) ∙ ap (λ j. get_or xs j d ∷ drop t.start xs) (sym k.1.1),
+    ))
+    (record { start = 0; end = n })
+    all
 
-pub best_more : (lot : ℕ) (ls : List Level) (i : ℕ) (d : Level) → i < length ls → leb lot (displayed (get_or ls i d)) ≡ false → best lot (drop (i + 1) ls) ≡ best lot (drop i ls)
-best_more lot ls i d lt h = sym (at_drop_more (best lot) ls i d lt ∙ rw h)
+-- our word and the library's are one
+pub any_is : {X : Type 0} (t : X → Bool) (xs : List X) → list_any t xs ≡ any t xs
+any_is t [] = refl
+any_is t (x ∷ xs) = rw (any_is t xs)
 
-pub mark_here : (v : ℕ) (ls : List Level) (i : ℕ) (d : Level) → i < length ls → (eqb (get_or ls i d).price v && any (λ p. p.marked) (get_or ls i d).shown.parts) ≡ true → mark_at v (drop i ls) ≡ true
-mark_here v ls i d lt h = at_drop_more (mark_at v) ls i d lt ∙ rw h
-
-pub mark_more : (v : ℕ) (ls : List Level) (i : ℕ) (d : Level) → i < length ls → (eqb (get_or ls i d).price v && any (λ p. p.marked) (get_or ls i d).shown.parts) ≡ false → mark_at v (drop (i + 1) ls) ≡ mark_at v (drop i ls)
-mark_more v ls i d lt h = sym (at_drop_more (mark_at v) ls i d lt ∙ rw h)
+-- the best price is that of the first level found
+pub best_is : (lot : ℕ) (ls : List Level) → option_map (λ l. l.price) (find (λ l. leb lot (displayed l)) ls) ≡ best lot ls
+best_is lot [] = refl
+best_is lot (l ∷ ls) = go (leb lot (displayed l)) (best_is lot ls)
+  where
+    go : (t : Bool) → option_map (λ l. l.price) (find (λ l. leb lot (displayed l)) ls) ≡ best lot ls → option_map (λ l. l.price) (cond t (Some l) (find (λ l. leb lot (displayed l)) ls)) ≡ cond t (Some l.price) (best lot ls)
+    go true ih = refl
+    go false ih = ih

@@ -16,12 +16,7 @@ fn unmark_part(levels: &mut Levels, i: usize, k: usize)
     ensures { (d : Level) (e : RulePart) → levels_of levels.new ≡ slice_set (levels_of levels.old) i (level (get_or (levels_of levels.old) i d).price (queue (slice_set (get_or (levels_of levels.old) i d).shown.parts k (plain (slice_index_or (get_or (levels_of levels.old) i d).shown.parts k e))) (get_or (levels_of levels.old) i d).shown.wheel) (get_or (levels_of levels.old) i d).hidden) }
 {
     let p = levels.parts(i, Step::Displayed)[k];
-    let part = Part {
-        order: p.order,
-        participant: p.participant,
-        quantity: p.quantity,
-        marked: false,
-    };
+    let part = Part { marked: false, ..p };
     levels.set_part(i, Step::Displayed, k, part);
 }
 
@@ -31,6 +26,7 @@ fn unmark_level(levels: &mut Levels, i: usize)
     ensures { (d : Level) → levels_of levels.new ≡ slice_set (levels_of levels.old) i (plain_level (slice_index_or (levels_of levels.old) i d)) }
 {
     let n = levels.parts(i, Step::Displayed).len();
+    // By place: an iterator would have to lend each part out of the side to be changed.
     for k in 0..n {
         unmark_part(levels, i, k);
     }
@@ -40,8 +36,8 @@ fn unmark_level(levels: &mut Levels, i: usize)
 pub fn unmark(levels: &mut Levels)
     ensures { levels_of levels.new ≡ unmarked (levels_of levels.old) }
 {
-    let n = levels.len();
-    for i in 0..n {
+    // By place: an iterator would have to lend each level out of the side.
+    for i in 0..levels.len() {
         unmark_level(levels, i);
     }
 }

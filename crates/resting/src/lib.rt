@@ -8,7 +8,6 @@ mod replenishing;
 mod reserves;
 
 pub use halts::unmark;
-pub use marks::{best_price, earns_mark, has_mark};
+pub use marks::{MarkTerms, best_price, has_mark};
 pub use offs::{take_off, take_off_side};
-pub use replenishing::{renew, replenish};
 pub use reserves::{is_low, join_later_part, show_new_part};

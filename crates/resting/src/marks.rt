@@ -24,12 +24,10 @@ fn displays_lot(levels: &Levels, i: usize, lot: u32) -> bool
 pub fn best_price(levels: &Levels, lot: u32) -> Option<u32>
     ensures { result ≡ best lot (levels_of levels.now) }
 {
-    for i in 0..levels.len() {
-        if displays_lot(levels, i, lot) {
-            return Some(levels.price(i));
-        }
-    }
-    None
+    // By place: in memory a level is a head and a stretch of parts, and an iterator would have to make a view of each.
+    (0..levels.len())
+        .find(|&i| displays_lot(levels, i, lot))
+        .map(|i| levels.price(i))
 }
 
 /// Whether the level at `i` has the price, and a marked part.
@@ -44,39 +42,35 @@ fn marked_there(levels: &Levels, i: usize, price: u32) -> bool
 pub fn has_mark(levels: &Levels, price: u32) -> bool
     ensures { result ≡ mark_at price (levels_of levels.now) }
 {
-    for i in 0..levels.len() {
-        if marked_there(levels, i, price) {
-            return true;
-        }
-    }
-    false
+    // By place, as above.
+    (0..levels.len()).any(|i| marked_there(levels, i, price))
 }
 
 /// Whether a price is better than another that there may be.
 fn beats_price<K: Ranking>(side: Side, price: u32, other: Option<u32>) -> bool
-    ensures { result ≡ beats (ranked_by K.Ranking.initial K.Ranking.good) side price other }
+    ensures { result ≡ beats (ranked_by K.initial K.good) side price other }
 {
-    match other {
-        None => true,
-        Some(w) => !at_least::<K>(side, w, price),
-    }
+    other.is_none_or(|w| !at_least::<K>(side, w, price))
 }
 
-/// Whether a part of `n` shares that is shown at the price, beside what the side has, is marked: it is at least the round lot,
-/// better than the best price of its side without it and than its side's away price, and no part at that price is marked.
-pub fn earns_mark<K: Ranking>(
-    levels: &Levels,
-    side: Side,
-    price: u32,
-    n: u32,
-    lot: u32,
-    away: u32,
-) -> bool
-    ensures { result ≡ earned (ranked_by K.Ranking.initial K.Ranking.good) side price n lot away (levels_of levels.now) }
-{
-    let quote = if away == 0 { None } else { Some(away) };
-    lot <= n
-        && beats_price::<K>(side, price, best_price(levels, lot))
-        && beats_price::<K>(side, price, quote)
-        && !has_mark(levels, price)
+/// What a mark on a side is judged by.
+#[derive(Clone, Copy, Debug, PartialEq, Eq)]
+pub struct MarkTerms {
+    /// The round lot.
+    pub lot: u32,
+    /// The away price of the side, if there is one.
+    pub away: Option<u32>,
+}
+
+impl MarkTerms {
+    /// Whether a part of `n` shares that is shown at the price, beside what the side has, is marked: it is at least the round lot,
+    /// better than the best price of its side without it and than its side's away price, and no part at that price is marked.
+    pub fn earns_mark<K: Ranking>(self, levels: &Levels, side: Side, price: u32, n: u32) -> bool
+        ensures { result ≡ earned (ranked_by K.initial K.good) side price n self.lot self.away (levels_of levels.now) }
+    {
+        self.lot <= n
+            && beats_price::<K>(side, price, best_price(levels, self.lot))
+            && beats_price::<K>(side, price, self.away)
+            && !has_mark(levels, price)
+    }
 }

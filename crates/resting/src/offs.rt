@@ -13,6 +13,8 @@ use amounts::{left_of, to_order, to_order_latest_first};
 use levels::Levels;
 use rules::Step;
 
+// `room`, the side and the place are lent by the caller, here and below: a struct of these loans would be made anew at each call,
+// which is no plainer; and an array for a slice with room for 384 shares would be asking more.
 /// Shares off the hidden part of an order at `i`. How many are still to be taken.
 pub(crate) fn off_hidden(
     levels: &mut Levels,
@@ -56,6 +58,7 @@ pub fn take_off(levels: &mut Levels, i: usize, order: u32, quantity: u32, room: 
 }
 
 /// Takes shares off an order that rests at the level at `i` alone. `room` is for the amounts.
+// Beside take_off, since its clause speaks of the whole side; the lot is named by its clauses alone.
 pub fn take_off_side(
     levels: &mut Levels,
     i: usize,

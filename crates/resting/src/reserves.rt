@@ -5,11 +5,12 @@ ghost use Rattle.rules.specs.Quantities.{of_order as shares_of, of_level};
 ghost use Rattle.rules.specs.Reserve.{runs_low, raised, join_hidden, show_anew};
 ghost use Rattle.levels.specs.Heads.{count};
 ghost use Rattle.levels.specs.Sides.{levels_of};
+ghost use Rattle.resting.specs.Replenished.{CanShow};
 
 use crate::offs::off_hidden;
 use amounts::{latest_alone, of_order, place_of};
 use levels::Levels;
-use rules::{Order, Part, Step};
+use rules::{Order, Step};
 
 /// Whether an order shows less than the round lot at `i`, and hides something.
 pub fn is_low(levels: &Levels, i: usize, lot: u32, order: u32) -> bool
@@ -27,19 +28,13 @@ fn raise(levels: &mut Levels, i: usize, order: u32, more: u32)
     ensures { (d : Level) → levels_of levels.new ≡ slice_set (levels_of levels.old) i (level (get_or (levels_of levels.old) i d).price (get_or (levels_of levels.old) i d).shown (queue (raised order more (get_or (levels_of levels.old) i d).hidden.parts) (get_or (levels_of levels.old) i d).hidden.wheel)) }
 {
     let parts = levels.parts(i, Step::Hidden);
-    let k = place_of(order, parts);
-    if k < parts.len() {
-        let p = parts[k];
-        let part = Part {
-            order: p.order,
-            participant: p.participant,
-            quantity: p.quantity + more,
-            marked: p.marked,
-        };
-        levels.set_part(i, Step::Hidden, k, part);
+    if let Some(k) = place_of(order, parts) {
+        let part = parts[k];
+        levels.set_part(i, Step::Hidden, k, part.with_quantity(part.quantity + more));
     }
 }
 
+// `room`, the side and the place are lent by the caller, here and below: a struct of these loans would be made anew at each call.
 /// If an order that runs low shows two parts at `i`, the later joins the hidden part. `room` is for the amounts.
 pub fn join_later_part(levels: &mut Levels, i: usize, lot: u32, order: u32, room: &mut [u32])
     requires place { i < length (levels_of levels.old) }
@@ -70,8 +65,7 @@ pub fn show_new_part(
     room: &mut [u32],
 )
     requires place { i < length (levels_of levels.old) }
-    requires known { (0 < order.participant) × (order.participant < 25) }
-    requires small { order.display ≤ 500000 }
+    requires order { CanShow order }
     requires parts { count (levels_of levels.old) < 384 }
     requires room { 384 ≤ length room.old }
     ensures { (d : Level) → levels_of levels.new ≡ slice_set (levels_of levels.old) i (show_anew lot order mark (slice_index_or (levels_of levels.old) i d)) }
@@ -82,12 +76,6 @@ pub fn show_new_part(
     let n = order
         .display
         .min(of_order(order.number, levels.parts(i, Step::Hidden)));
-    let part = Part {
-        order: order.number,
-        participant: order.participant,
-        quantity: n,
-        marked: mark,
-    };
-    levels.put(i, Step::Displayed, part);
+    levels.put(i, Step::Displayed, order.part(n, mark));
     let _ = off_hidden(levels, i, order.number, n, room);
 }

@@ -1,8 +1,9 @@
 -- Behind a price out of reach no price is in reach. Assumes nothing.
-use Rattle.std.proofs.Common.{◌≡◌, ℕ, ◌+◌, ◌<◌, Bool, true, false, cond, not, ◌&&◌, ◌||◌, eqb, List, [], ◌∷◌, ◌++◌, length, drop, set, refl, sym, ap, ◌∙◌, subst, arith}
+use Rattle.std.proofs.Common.{◌≡◌, ℕ, ◌+◌, ◌<◌, Bool, true, false, not, ◌||◌, None, Some, Option, List, [], ◌∷◌, ◌++◌, length, drop, set, refl, sym, ap, ◌∙◌, subst, arith}
 use mathlib.Core.Bool.{false≢true}
 use Rattle.std.specs.List.{AllByRecursion}
 use Rattle.std.proofs.ByRecursion.{All-weaker}
+use Rattle.std.proofs.lemmas.Bool.{and_parts}
 use Rattle.std.proofs.lemmas.List.{drop_more, drop-set-lt}
 use Rattle.allocation.specs.Rankings.{TotalOrder}
 use Rattle.allocation.specs.Dealings.{Deal}
@@ -13,7 +14,7 @@ use Rattle.rules.specs.Trading.{Traded, traded, trade_reached, trade_side}
 use Rattle.rules.specs.Invariants.{BestFirst, prices}
 use Rattle.rules.proofs.Chains.{good_total, good_chain}
 use Rattle.trading.specs.declared.states.Reach.{Reach}
-use Rattle.trading.specs.Reached.{reached}
+use Rattle.trading.specs.Reached.{within, reached}
 use Rattle.trading.specs.Steps.{at_place}
 
 -- ## Nothing in reach
@@ -55,18 +56,16 @@ module _ (rank : Ranking) (O : TotalOrder rank.good) where
       go false true t n = absurd (false≢true n)
       go false false t n = t
 
-  -- a better price is in reach where a worse one is
+  -- a better price is within a bound where a worse one is
+  nearer : (s : Side) (v w : ℕ) (bound : Option ℕ) → good rank s v w ≡ true → within rank s w bound ≡ true → within rank s v bound ≡ true
+  nearer s v w None vw h = refl
+  nearer s v w (Some u) vw h = good_chain rank O s v w u vw h
+
+  -- and in reach where a worse one is
   closer : (r : Reach) (v w : ℕ) → good rank r.side v w ≡ true → reached rank r w ≡ true → reached rank r v ≡ true
-  closer r v w vw h = go r.limited (eqb r.away 0) (good rank r.side w r.limit) refl (good rank r.side w r.away) refl h
-    where
-      go : (t z x : Bool) → good rank r.side w r.limit ≡ x → (y : Bool) → good rank r.side w r.away ≡ y → (cond t x true && (z || y)) ≡ true → (cond t (good rank r.side v r.limit) true && (z || good rank r.side v r.away)) ≡ true
-      go true true true hx y hy h = rw (good_chain rank O r.side v w r.limit vw hx)
-      go true false true hx true hy h = rw (good_chain rank O r.side v w r.limit vw hx, good_chain rank O r.side v w r.away vw hy)
-      go true false true hx false hy h = absurd (false≢true h)
-      go true z false hx y hy h = absurd (false≢true h)
-      go false true x hx y hy h = refl
-      go false false x hx true hy h = rw (good_chain rank O r.side v w r.away vw hy)
-      go false false x hx false hy h = absurd (false≢true h)
+  closer r v w vw h =
+      let both = and_parts (within rank r.side w r.limit) (within rank r.side w r.away) h in
+      rw (nearer r.side v w r.limit vw both.0) (nearer r.side v w r.away vw both.1)
 
   out_behind : (r : Reach) (v w : ℕ) → reached rank r v ≡ false → better rank r.side v w ≡ true → reached rank r w ≡ false
   out_behind r v w out b = go (reached rank r w) refl

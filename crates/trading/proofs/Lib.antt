@@ -4,3 +4,4 @@ pub mod Walking
 pub mod Touring
 pub mod Closing
 pub mod Bounded
+pub mod Reaches

@@ -1,16 +1,21 @@
 -- What one step does. Assumes nothing.
-use Rattle.std.proofs.Common.{◌≡◌, ℕ, zero, suc, ◌-◌, true, false, List, [], ◌∷◌, refl, ap, ◌∙◌, arith}
+use Rattle.std.proofs.Common.{◌≡◌, ℕ, zero, suc, ◌+◌, ◌-◌, true, false, List, [], ◌∷◌, length, set, sym, refl, ap, ◌∙◌, arith}
 use Rattle.std.proofs.lemmas.Bool.{both_ways}
 use Rattle.allocation.specs.Dealings.{Deal, Dealt, Lawful, sum}
-use Rattle.rules.specs.Books.{Level, queue}
+use Rattle.rules.specs.Books.{Level, queue, nothing_at}
 use Rattle.rules.specs.Changes.{lowered}
 use Rattle.rules.specs.Trading.{queue_of, with_queue, dealt, setter_shares, step_shares, rows_of}
 use Rattle.rules.specs.declared.orders.Part.{Part}
 use Rattle.rules.specs.declared.phases.Step.{Step}
+use Rattle.rules.specs.declared.answers.Row.{Row}
+use Rattle.trading.specs.Written.{written}
+use Rattle.trading.proofs.Writing.{written_none}
+use Rattle.std.proofs.lemmas.List.{set-get_or}
 use Rattle.rules.specs.declared.phases.Step.TheVariants.{Setter, Displayed, Hidden}
-use Rattle.rules.specs.Invariants.{SoundQueue, SoundLevel}
+use Rattle.rules.specs.Invariants.{SoundLevel}
+use Rattle.rules.proofs.Stages.{rows_none}
 use Rattle.rules.proofs.Trades.{lowered_none, fair_shares, with_good}
-use Rattle.trading.specs.Steps.{step_rest, step_rows, opens, part_shares, open_shares}
+use Rattle.trading.specs.Steps.{step_rest, step_rows, opens, part_shares, open_shares, at_place}
 
 -- ## Nothing is dealt without quantity or claims
 
@@ -65,10 +70,6 @@ idle_rest deal lot q t l e =
 pub idle_left : (deal : Deal) (lot q : ℕ) (t : Step) (l : Level) → step_shares deal lot q t l ≡ dealt [] (queue_of t l).wheel → q ≡ q - sum (step_shares deal lot q t l).shares
 idle_left deal lot q t l e = omega (arith, ap (λ (x : Dealt). sum x.shares) e)
 
-rows_none : (t : Step) (a v : ℕ) (ps : List Part) → rows_of t a v ps [] ≡ []
-rows_none t a v [] = refl
-rows_none t a v (p ∷ ps) = refl
-
 pub idle_rows : (deal : Deal) (lot arriving q : ℕ) (t : Step) (l : Level) → step_shares deal lot q t l ≡ dealt [] (queue_of t l).wheel → step_rows deal lot arriving q t l ≡ []
 idle_rows deal lot arriving q t l e = ap (λ (x : Dealt). rows_of t arriving l.price (queue_of t l).parts x.shares) e ∙ rows_none t arriving l.price (queue_of t l).parts
 
@@ -78,7 +79,20 @@ pub ready_step : (deal : Deal) → Lawful deal → (lot q : ℕ) (t : Step) (l :
 ready_step deal D lot q t l r =
     with_good lot t (queue (lowered (queue_of t l).parts (step_shares deal lot q t l).shares) (step_shares deal lot q t l).wheel) l (fair_shares deal D lot q t l r).sound r
 
-pub ready_seated : (lot : ℕ) (t : Step) (l : Level) → SoundLevel lot l → SoundQueue lot (queue_of t l)
-ready_seated lot Setter l r = r.0
-ready_seated lot Displayed l r = r.0
-ready_seated lot Hidden l r = r.1
+-- a step that deals nothing leaves the levels, the quantity and the report as they were
+pub record Stays (deal : Deal) (lot arriving q : ℕ) (t : Step) (ls : List Level) (i : ℕ) (rs : List Row) (a : ℕ) : Type 0 where
+  pub level : ls ≡ set ls i (step_rest deal lot q t (at_place ls i))
+  pub left : q ≡ q - sum (step_shares deal lot q t (at_place ls i)).shares
+  pub rows : rs ≡ written rs a (step_rows deal lot arriving q t (at_place ls i))
+  pub count : a ≡ a + length (step_rows deal lot arriving q t (at_place ls i))
+
+pub stays : (deal : Deal) (lot arriving q : ℕ) (t : Step) (ls : List Level) (i : ℕ) (rs : List Row) (a : ℕ) → step_shares deal lot q t (at_place ls i) ≡ dealt [] (queue_of t (at_place ls i)).wheel → Stays deal lot arriving q t ls i rs a
+stays deal lot arriving q t ls i rs a none =
+    let l : Level = at_place ls i in
+    let rows : step_rows deal lot arriving q t l ≡ [] = idle_rows deal lot arriving q t l none in
+    record {
+      level = sym (ap (set ls i) (idle_rest deal lot q t l none) ∙ set-get_or ls i (nothing_at 0));
+      left = idle_left deal lot q t l none;
+      rows = sym (ap (written rs a) rows ∙ written_none rs a);
+      count = omega (arith, ap length rows);
+    }

@@ -1,7 +1,7 @@
 -- Price after price of a side. Assumes nothing.
 use Rattle.std.proofs.Common.{◌≡◌, ℕ, ◌+◌, ◌-◌, ◌<◌, ◌≤◌, Bool, true, false, List, [], ◌∷◌, ◌++◌, length, take, drop, set, sym, refl, ap, ◌∙◌, subst, append_assoc, arith}
 use Rattle.std.specs.List.{AllByRecursion}
-use Rattle.std.proofs.lemmas.List.{set-get_or, drop_more, drop_all, take_more_set, drop-set-lt, length-append, take-append-drop}
+use Rattle.std.proofs.lemmas.List.{set-get_or, drop_more, drop_all, take_more_set, drop-set-lt, length-set, length-append, take-append-drop}
 use Rattle.allocation.specs.Dealings.{Deal, sum}
 use Rattle.rules.specs.Books.{Level, nothing_at}
 use Rattle.rules.specs.Trading.{Traded, traded, step_shares, trade_price, trade_reached, trade_side}
@@ -58,17 +58,15 @@ pub record Tour (deal : Deal) (lot arriving : ℕ) (table : List Step) (reach : 
   pub count : a + length (trade_side deal lot arriving table reach q (drop i ls)).rows ≡ a₀ + length (trade_side deal lot arriving table reach q₀ ls₀).rows
   pub ready : AllByRecursion (SoundLevel lot) (drop i ls)
   pub long : length rs ≡ length rs₀
+  pub size : length ls ≡ length ls₀
 
 pub tour_none : (deal : Deal) (lot arriving : ℕ) (table : List Step) (reach : ℕ → Bool) (ls : List Level) (q : ℕ) (rs : List Row) (a : ℕ) → AllByRecursion (SoundLevel lot) ls → Tour deal lot arriving table reach 0 ls q rs a ls q rs a
-tour_none deal lot arriving table reach ls q rs a r = record { left = refl; rest = refl; rows = refl; count = refl; ready = r; long = refl }
+tour_none deal lot arriving table reach ls q rs a r = record { left = refl; rest = refl; rows = refl; count = refl; ready = r; long = refl; size = refl }
 
 module _ {deal : Deal} {lot arriving : ℕ} {table : List Step} {reach : ℕ → Bool} {i : ℕ} {ls₀ : List Level} {q₀ : ℕ} {rs₀ : List Row} {a₀ : ℕ} {ls : List Level} {q : ℕ} {rs : List Row} {a : ℕ} (w : Tour deal lot arriving table reach i ls₀ q₀ rs₀ a₀ ls q rs a) (fits : a₀ + length (trade_side deal lot arriving table reach q₀ ls₀).rows ≤ length rs₀) where
   module _ (lt : i < length ls) where
     here : drop i ls ≡ at_place ls i ∷ drop (i + 1) ls
     here = drop_more ls i (nothing_at 0) lt
-
-    pub tour_ready : SoundLevel lot (at_place ls i)
-    tour_ready = (subst (λ (l : List Level). AllByRecursion (SoundLevel lot) l) here w.ready).0
 
     module _ (r : Traded Level) (is : trade_reached deal lot arriving table (reach (at_place ls i).price) q (at_place ls i) ≡ r) where
       rows_here : (trade_side deal lot arriving table reach q (drop i ls)).rows ≡ r.rows ++ (trade_side deal lot arriving table reach r.left (drop (i + 1) ls)).rows
@@ -98,6 +96,7 @@ module _ {deal : Deal} {lot arriving : ℕ} {table : List Step} {reach : ℕ →
             count = omega (arith, count, ap (λ (x : Traded (List Level)). length x.rows) same, ap length rows_here, length-append r.rows t.rows, w.count);
             ready = subst (λ (l : List Level). AllByRecursion (SoundLevel lot) l) (sym later) (subst (λ (l : List Level). AllByRecursion (SoundLevel lot) l) here w.ready).1;
             long = ap length rows ∙ length_written rs a r.rows room_here ∙ w.long;
+            size = ap length level ∙ length-set ls i r.rest ∙ w.size;
           }
 
     -- a price in reach

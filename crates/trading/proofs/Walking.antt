@@ -1,6 +1,6 @@
 -- Step after step at a price, and price after price. Assumes nothing.
 use Rattle.std.proofs.Common.{◌≡◌, ℕ, zero, suc, ◌+◌, ◌-◌, ◌<◌, ◌≤◌, List, [], ◌∷◌, ◌++◌, length, get_or, drop, set, sym, refl, ap, ◌∙◌, subst, arith}
-use Rattle.std.proofs.lemmas.List.{set-get_or, get_or-set_same, length-set, drop_more, drop_all, length-append}
+use Rattle.std.proofs.lemmas.List.{get_or-set_same, length-set, drop_more, drop_all, length-append}
 use Rattle.allocation.specs.Dealings.{Deal, Lawful, sum}
 use Rattle.rules.specs.Books.{Level, nothing_at}
 use Rattle.rules.specs.Trading.{Traded, step_shares, trade_price}
@@ -23,9 +23,6 @@ pub record Walk (deal : Deal) (lot arriving : ℕ) (table : List Step) (i j : �
   pub count : a + length (trade_price deal lot arriving (drop j table) q (at_place ls i)).rows ≡ a₀ + length (trade_price deal lot arriving table q₀ (at_place ls₀ i)).rows
   pub ready : SoundLevel lot (at_place ls i)
   pub long : length rs ≡ length rs₀
-
-pub walk_none : (deal : Deal) (lot arriving : ℕ) (table : List Step) (i : ℕ) (ls : List Level) (q : ℕ) (rs : List Row) (a : ℕ) → SoundLevel lot (at_place ls i) → Walk deal lot arriving table i 0 ls q rs a ls q rs a
-walk_none deal lot arriving table i ls q rs a r = record { level = sym (set-get_or ls i (nothing_at 0)); left = refl; rest = refl; rows = refl; count = refl; ready = r; long = refl }
 
 module _ (deal : Deal) (lot arriving q : ℕ) (s : Step) (ss : List Step) (l : Level) where
   -- one step of a table, then the others

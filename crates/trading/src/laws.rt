@@ -5,5 +5,5 @@ use allocation::Dealing;
 
 /// Trading with a side writes no more rows than the side has parts, for every dealing and every table of steps.
 pub fn rows_fit<D: Dealing>()
-    ensures { NoMoreRowsThanParts D.Dealing.meaning }
+    ensures { NoMoreRowsThanParts D.meaning }
 {}

@@ -9,7 +9,5 @@ mod states;
 mod steps;
 
 pub use laws::rows_fit;
-pub use prices::{trade_price, trade_side};
 pub use reports::write_rows;
-pub use sorted::trade_best_first;
 pub use states::{Progress, Reach, Terms};

@@ -5,19 +5,23 @@ ghost use Rattle.trading.specs.Reached.{reached};
 
 use allocation::Ranking;
 use levels::at_least;
-use rules::Side;
+use rules::{Side, Step};
 
 /// What stays the same while an order trades.
-#[derive(Clone, Copy)]
-pub struct Terms {
+#[derive(Drop)]
+pub struct Terms<'a, D> {
     /// The round lot.
     pub lot: u32,
     /// The number of the arriving order.
     pub arriving: u32,
+    /// The steps of trading at a price.
+    pub table: &'a [Step],
+    /// How the shares of a step are dealt.
+    pub dealing: &'a D,
 }
 
 /// How far trading has come.
-#[derive(Clone, Copy)]
+#[derive(Clone, Copy, Debug, PartialEq, Eq)]
 pub struct Progress {
     /// The shares still to trade.
     pub left: u32,
@@ -26,23 +30,22 @@ pub struct Progress {
 }
 
 /// Which prices of a side an arriving order reaches.
-#[derive(Clone, Copy)]
+#[derive(Clone, Copy, Debug, PartialEq, Eq)]
 pub struct Reach {
     /// The side that it trades with.
     pub side: Side,
-    /// Whether it has a limit.
-    pub limited: bool,
-    pub limit: u32,
-    /// The away price of the side; 0 means none.
-    pub away: u32,
+    /// Its limit, if it has one.
+    pub limit: Option<u32>,
+    /// The away price of the side, if there is one.
+    pub away: Option<u32>,
 }
 
 impl Reach {
     /// Whether a price is in reach: at least as good, by its own side's order, as the limit and as the away price.
     pub fn has<K: Ranking>(&self, price: u32) -> bool
-        ensures { result ≡ reached (ranked_by K.Ranking.initial K.Ranking.good) self.now price }
+        ensures { result ≡ reached (ranked_by K.initial K.good) self.now price }
     {
-        (!self.limited || at_least::<K>(self.side, price, self.limit))
-            && (self.away == 0 || at_least::<K>(self.side, price, self.away))
+        let good = |bound| at_least::<K>(self.side, price, bound);
+        self.limit.is_none_or(good) && self.away.is_none_or(good)
     }
 }

@@ -7,27 +7,7 @@ ghost use Rattle.levels.specs.Queues.{head_of, with_head, ahead};
 
 use super::{LevelHead, QueueHead};
 use allocation::Wheel;
-use arrays::Edit;
 use rules::Step;
-
-/// Another head for the queue of a step.
-#[derive(Clone, Copy)]
-pub struct NewQueue {
-    pub step: Step,
-    pub queue: QueueHead,
-}
-
-impl Edit<LevelHead> for NewQueue {
-    ghost edited = { λ e h. with_head e.step e.queue h };
-
-    fn edit(&self, item: &mut LevelHead) {
-        match self.step {
-            Step::Setter => item.shown = self.queue,
-            Step::Displayed => item.shown = self.queue,
-            Step::Hidden => item.hidden = self.queue,
-        }
-    }
-}
 
 impl LevelHead {
     /// The head of a level without parts.
@@ -56,8 +36,7 @@ impl LevelHead {
         ensures { result.now ≡ head_of step self.now }
     {
         match step {
-            Step::Setter => &self.shown,
-            Step::Displayed => &self.shown,
+            Step::Setter | Step::Displayed => &self.shown,
             Step::Hidden => &self.hidden,
         }
     }
@@ -67,9 +46,18 @@ impl LevelHead {
         ensures { result ≡ ahead step self.now }
     {
         match step {
-            Step::Setter => 0,
-            Step::Displayed => 0,
+            Step::Setter | Step::Displayed => 0,
             Step::Hidden => self.shown.count,
+        }
+    }
+
+    /// Another head for the queue of a step.
+    pub fn set_queue(&mut self, step: Step, queue: QueueHead)
+        ensures { self.new ≡ with_head step queue self.old }
+    {
+        match step {
+            Step::Setter | Step::Displayed => self.shown = queue,
+            Step::Hidden => self.hidden = queue,
         }
     }
 }

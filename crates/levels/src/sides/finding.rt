@@ -1,8 +1,7 @@
 //! A price's place among the levels, and a queue's place among the parts.
-ghost use Rattle.std.specs.Prelude.{◌≡◌, ◌+◌, ◌<◌, ◌≤◌, true, ◌++◌, length, get_or, take, drop, ◌≢◌, slice_index_or, slice_set};
-ghost use Rattle.std.specs.List.{AllByRecursion};
+ghost use Rattle.std.specs.Prelude.{◌≡◌, ◌+◌, ◌<◌, ◌≤◌, true, ◌++◌, length, take, drop, ◌==◌, position, slice_index_or, slice_set};
 ghost use Rattle.arrays.specs.Items.{items};
-ghost use Rattle.rules.specs.Books.{Level, ranked_by};
+ghost use Rattle.rules.specs.Books.{Level, ranked_by, good};
 ghost use Rattle.rules.specs.Changes.{on_price};
 ghost use Rattle.levels.specs.Heads.{span, count};
 ghost use Rattle.levels.specs.Queues.{head_of, ahead};
@@ -15,6 +14,23 @@ use crate::ranked::at_least;
 use allocation::Ranking;
 use rules::{Side, Step};
 
+// From the front, by the library's `position`: that prices stand in order is no fact of the side's type, and a ghost field for it would ask more of callers.
+/// The place of the first head at the price.
+fn first_at_price(heads: &[LevelHead], price: u32) -> Option<usize>
+    ensures { result ≡ position (λ h. h.price == price) heads.now }
+{
+    heads.iter().position(|head| head.price == price)
+}
+
+/// The place of the first head that is no better than the price.
+fn first_no_better<K: Ranking>(heads: &[LevelHead], side: Side, price: u32) -> Option<usize>
+    ensures { result ≡ position (λ h. good (ranked_by K.initial K.good) side price h.price) heads.now }
+{
+    heads
+        .iter()
+        .position(|head| at_least::<K>(side, price, head.price))
+}
+
 impl Levels {
     /// How many parts come before those of the level at `i`.
     fn start(&self, i: usize) -> usize
@@ -22,8 +38,7 @@ impl Levels {
         ensures { result ≡ span (take i (items self.now.heads)) }
     {
         let mut start = 0;
-        for k in 0..i {
-            let head = self.heads.at(k);
+        for head in &self.heads.as_slice()[..i] {
             start += head.shown.count + head.hidden.count;
         }
         start
@@ -42,29 +57,18 @@ impl Levels {
     /// The place of the first level that is no better than the price.
     fn seek<K: Ranking>(&self, side: Side, price: u32) -> usize
         ensures within { result ≤ length (levels_of self.now) }
-        ensures skips { (f : Level → Level) → on_price (ranked_by K.Ranking.initial K.Ranking.good) side price f (levels_of self.now) ≡ take result (levels_of self.now) ++ on_price (ranked_by K.Ranking.initial K.Ranking.good) side price f (drop result (levels_of self.now)) }
-        ensures stops { no_better (ranked_by K.Ranking.initial K.Ranking.good) side price (drop result (levels_of self.now)) ≡ true }
+        ensures skips { (f : Level → Level) → on_price (ranked_by K.initial K.good) side price f (levels_of self.now) ≡ take result (levels_of self.now) ++ on_price (ranked_by K.initial K.good) side price f (drop result (levels_of self.now)) }
+        ensures stops { no_better (ranked_by K.initial K.good) side price (drop result (levels_of self.now)) ≡ true }
     {
-        for i in 0..self.heads.len() {
-            if at_least::<K>(side, price, self.heads.at(i).price) {
-                return i;
-            }
-        }
-        self.heads.len()
+        let heads = self.heads.as_slice();
+        first_no_better::<K>(heads, side, price).unwrap_or(heads.len())
     }
 
-    /// The place of the first level at the price; past the last if there is none.
-    pub fn find_price(&self, price: u32) -> usize
-        ensures within { result ≤ length (levels_of self.now) }
-        ensures found { (d : Level) → result < length (levels_of self.now) → (get_or (levels_of self.now) result d).price ≡ price }
-        ensures others { AllByRecursion (λ l. (l.price ≢ price)) (take result (levels_of self.now)) }
+    /// The place of the first level at the price; none if there is none.
+    pub fn find_price(&self, price: u32) -> Option<usize>
+        ensures { result ≡ position (λ l. l.price == price) (levels_of self.now) }
     {
-        for i in 0..self.heads.len() {
-            if self.heads.at(i).price == price {
-                return i;
-            }
-        }
-        self.heads.len()
+        first_at_price(self.heads.as_slice(), price)
     }
 
     /// Whether the level at `i` has the price.
@@ -78,7 +82,7 @@ impl Levels {
     pub fn find_or_make<K: Ranking>(&mut self, side: Side, price: u32) -> usize
         requires { length (levels_of self.old) < 385 }
         ensures within { result < length (levels_of self.new) }
-        ensures finds { (f : Level → Level) (d : Level) → on_price (ranked_by K.Ranking.initial K.Ranking.good) side price f (levels_of self.old) ≡ slice_set (levels_of self.new) result (f (slice_index_or (levels_of self.new) result d)) }
+        ensures finds { (f : Level → Level) (d : Level) → on_price (ranked_by K.initial K.good) side price f (levels_of self.old) ≡ slice_set (levels_of self.new) result (f (slice_index_or (levels_of self.new) result d)) }
         ensures parts { count (levels_of self.new) ≡ count (levels_of self.old) }
     {
         let i = self.seek::<K>(side, price);

@@ -9,12 +9,11 @@ ghost use Rattle.rules.specs.Rules.{holds};
 ghost use Rattle.levels.specs.Heads.{size};
 ghost use Rattle.levels.specs.Sides.{levels_of};
 
-use super::{LEVELS, Levels};
+use super::Levels;
 use crate::claiming::settle_wheel;
-use crate::heads::{LevelHead, NewQueue, QueueHead};
+use crate::heads::QueueHead;
 use crate::sides::lowering::lower_each;
 use allocation::Wheel;
-use arrays::{ArrayVec, Edit};
 use rules::{Part, Step};
 
 impl Levels {
@@ -28,7 +27,7 @@ impl Levels {
         let n = self.heads.at(i).queue(step).count;
         let count = lower_each(&mut self.parts, start, n, shares);
         let queue = QueueHead { count, wheel };
-        self.heads.edit(i, &NewQueue { step, queue });
+        self.heads.edit(i, |head| head.set_queue(step, queue));
     }
 
     /// The parts of the queue of a step at `i` lose amounts, and participants without interest left their seats.
@@ -46,7 +45,7 @@ impl Levels {
     pub fn tidy(&mut self)
         ensures { levels_of self.new ≡ filter holds (levels_of self.old) }
     {
-        keep_full(&mut self.heads);
+        self.heads.retain(|head| head.holds());
     }
 
     /// The level at `i` goes if it has no part.
@@ -55,7 +54,7 @@ impl Levels {
         ensures { (d : Level) → levels_of self.new ≡ (if holds (slice_index_or (levels_of self.old) i d) then levels_of self.old else take i (levels_of self.old) ++ drop (i + 1) (levels_of self.old)) }
     {
         if !self.heads.at(i).holds() {
-            self.heads.remove_range(i, i + 1);
+            self.heads.remove(i);
         }
     }
 
@@ -63,24 +62,7 @@ impl Levels {
     pub fn clear(&mut self)
         ensures { levels_of self.new ≡ [] }
     {
-        self.heads.truncate(0);
-        self.parts.truncate(0);
+        self.heads.clear();
+        self.parts.clear();
     }
-}
-
-/// The heads of levels without a part go.
-fn keep_full(heads: &mut ArrayVec<LevelHead, LEVELS>)
-    ensures { items heads.new ≡ filter (λ h. nat_lt 0 (size h)) (items heads.old) }
-{
-    let mut k = 0;
-    for j in 0..heads.len() {
-        if heads.at(j).holds() {
-            if k < j {
-                let head = heads.get(j);
-                heads.set(k, head);
-            }
-            k += 1;
-        }
-    }
-    heads.truncate(k);
 }

@@ -20,20 +20,12 @@ pub(super) fn lower_each(
     ensures after { items parts.new ≡ spliced (items parts.old) start (start + n) (lowered (take n (drop start (items parts.old))) amounts.now) }
     ensures count { result ≡ length (lowered (take n (drop start (items parts.old))) amounts.now) }
 {
+    // By index, and `k` counts those that stay: after an adapter of `iter_mut` a proof knows only how many there are.
     let mut k = start;
-    for j in 0..n {
+    for (j, amount) in amounts.iter().enumerate() {
         let p = parts.get(start + j);
-        let x = amounts[j];
-        if x < p.quantity {
-            parts.set(
-                k,
-                Part {
-                    order: p.order,
-                    participant: p.participant,
-                    quantity: p.quantity - x,
-                    marked: p.marked,
-                },
-            );
+        if *amount < p.quantity {
+            parts.set(k, p.with_quantity(p.quantity - *amount));
             k += 1;
         }
     }

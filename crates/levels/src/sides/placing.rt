@@ -7,9 +7,9 @@ ghost use Rattle.levels.specs.Heads.{count};
 ghost use Rattle.levels.specs.Sides.{levels_of};
 
 use super::Levels;
-use crate::heads::{LevelHead, NewQueue};
+use crate::heads::LevelHead;
 use allocation::Ranking;
-use arrays::{ArrayVec, Edit};
+use arrays::ArrayVec;
 use rules::{Part, Side, Step};
 
 impl Levels {
@@ -28,6 +28,7 @@ impl Levels {
         }
     }
 
+    // What a part must be, and that there is room, is asked here: a type for it would ask more of callers, and a name for two clauses says no more.
     /// A part comes last in the queue of a step at `i`. Its participant has a seat, or takes the last one.
     pub fn put(&mut self, i: usize, step: Step, part: Part)
         requires place { i < length (levels_of self.old) }
@@ -41,7 +42,7 @@ impl Levels {
         self.parts.insert(start + queue.count, part);
         queue.wheel.ensure_seat(part.participant);
         queue.count += 1;
-        self.heads.edit(i, &NewQueue { step, queue });
+        self.heads.edit(i, |head| head.set_queue(step, queue));
     }
 
     /// A part comes last in the queue of a step at its price. The level is found, or made at its place.
@@ -50,9 +51,18 @@ impl Levels {
         requires known { (0 < part.participant) × (part.participant < 25) }
         requires small { part.quantity ≤ 500000 }
         requires room { count (levels_of self.old) < 384 }
-        ensures { levels_of self.new ≡ on_price (ranked_by K.Ranking.initial K.Ranking.good) side price (λ l. with_queue step (put part (queue_of step l)) l) (levels_of self.old) }
+        ensures { levels_of self.new ≡ on_price (ranked_by K.initial K.good) side price (λ l. with_queue step (put part (queue_of step l)) l) (levels_of self.old) }
     {
         let i = self.find_or_make::<K>(side, price);
         self.put(i, step, part);
+    }
+}
+
+// Written and not derived, so that the contract says which value it is.
+impl Default for Levels {
+    ghost is_default = { λ s. levels_of s ≡ [] };
+
+    fn default() -> Self {
+        Levels::new()
     }
 }

@@ -23,8 +23,9 @@ impl OrderTable {
                 quantity,
                 ..
             } => {
-                let i = self.find(resting);
-                self.decrement(i, quantity);
+                if let Some(i) = self.find(resting) {
+                    self.decrement(i, quantity);
+                }
             }
             Row::GivenBack { .. } => {}
         }
@@ -37,8 +38,8 @@ impl OrderTable {
         requires enough { AllByRecursion (λ r. taken_from r.order.number rows.now ≤ r.quantity) (rows_of self.old) }
         ensures { rows_of self.new ≡ deducted rows.now (rows_of self.old) }
     {
-        for i in 0..rows.len() {
-            self.deduct_row(rows[i]);
+        for row in rows {
+            self.deduct_row(*row);
         }
     }
 }

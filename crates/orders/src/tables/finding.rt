@@ -1,9 +1,9 @@
 //! The table is made, and looked at.
-ghost use Rattle.std.specs.Prelude.{◌≡◌, ◌<◌, ◌≤◌, [], length, get_or, take, ◌≢◌, slice_index_or};
-ghost use Rattle.std.specs.List.{AllByRecursion};
+ghost use Rattle.std.specs.Prelude.{◌≡◌, ◌<◌, ◌≤◌, [], length, ◌==◌, position, slice_index_or};
 ghost use Rattle.orders.specs.Rows.{rows_of};
 
-use super::{ORDERS, OrderTable, Resting};
+use super::{OrderTable, Resting};
+use arrays::ArrayVec;
 use rules::{Kind, Order, Side};
 
 impl Resting {
@@ -28,8 +28,7 @@ impl OrderTable {
         ensures { rows_of result ≡ [] }
     {
         OrderTable {
-            rows: [Resting::NONE; ORDERS],
-            len: 0,
+            rows: ArrayVec::new(Resting::NONE),
         }
     }
 
@@ -38,7 +37,15 @@ impl OrderTable {
         ensures count { result ≡ length (rows_of self.now) }
         ensures most { result ≤ 128 }
     {
-        self.len
+        self.rows.len()
+    }
+
+    /// The rows, by rising number of their orders.
+    pub fn rows(&self) -> &[Resting]
+        ensures rows { result.now ≡ rows_of self.now }
+        ensures most { length result.now ≤ 128 }
+    {
+        self.rows.as_slice()
     }
 
     /// The row at `i`.
@@ -46,20 +53,24 @@ impl OrderTable {
         requires { i < length (rows_of self.now) }
         ensures { result.now ≡ slice_index_or (rows_of self.now) i result.now }
     {
-        &self.rows[i]
+        self.rows.at(i)
     }
 
-    /// The place of an order; past the last if it does not rest.
-    pub fn find(&self, number: u32) -> usize
-        ensures within { result ≤ length (rows_of self.now) }
-        ensures found { (d : Resting) → result < length (rows_of self.now) → (get_or (rows_of self.now) result d).order.number ≡ number }
-        ensures others { AllByRecursion (λ x. (x.order.number ≢ number)) (take result (rows_of self.now)) }
+    // From the front: that numbers rise is no fact of the table's type, and a ghost field for it would ask more of `push`.
+    /// The place of an order; none if it does not rest.
+    pub fn find(&self, number: u32) -> Option<usize>
+        ensures { result ≡ position (λ r. r.order.number == number) (rows_of self.now) }
     {
-        for i in 0..self.len {
-            if self.rows[i].order.number == number {
-                return i;
-            }
-        }
-        self.len
+        let rows = self.rows.as_slice();
+        rows.iter().position(|row| row.order.number == number)
+    }
+}
+
+// Written and not derived, so that the contract says which value it is.
+impl Default for OrderTable {
+    ghost is_default = { λ t. rows_of t ≡ [] };
+
+    fn default() -> Self {
+        OrderTable::new()
     }
 }

@@ -1,14 +1,10 @@
-use Rattle.std.proofs.Common.{◌≡◌, false, List, length, get_or, set, sym, ap, ◌∙◌, arith}
-use Rattle.std.proofs.lemmas.List.{set-get_or, get_or-set_same, length-set}
-use Rattle.rules.specs.Books.{Level, part, level, queue, nothing_at}
-use Rattle.rules.specs.declared.orders.Part.{Part}
+use Rattle.std.proofs.Common.{◌≡◌, false, length, get_or, ap, ◌∙◌, arith}
+use Rattle.std.proofs.lemmas.List.{get_or-set_same, length-set}
+use Rattle.rules.specs.Books.{Level, part, nothing_at}
 use Rattle.levels.specs.Sides.{levels_of}
 use Rattle.resting.specs.Unmarked.{plain}
-use Rattle.resting.proofs.Mapping.{plain_to, plain_more, mapped_all, length_mapped}
+use Rattle.resting.proofs.Mapping.{plain_to, plain_more, length_mapped}
 use Rattle.resting.proofs.halts.unmark_level.Goals as goal
-
-pub loop-k-init : goal.loop-k-init
-loop-k-init c = λ d. sym (set-get_or (levels_of c.args.levels.now) c.args.i d)
 
 pub unmark_part-requires : goal.unmark_part-requires
 unmark_part-requires c =
@@ -33,10 +29,3 @@ pub loop-k-preserved : goal.loop-k-preserved
 loop-k-preserved c = λ d.
     let ls = levels_of c.args.levels.now in
     plain_more ls (levels_of c.loop-k.levels) (levels_of c.unmark_part.new.levels) c.args.i c.loop-k.k d (part 0 0 0 false) c.requires (omega (arith, c.loop-k-test.true, ap length (c.parts-n.ensures.value d))) (c.loop-k.invariant d) (c.unmark_part.ensures d (part 0 0 0 false))
-
-pub returns : goal.returns
-returns c = λ d.
-    let ls = levels_of c.args.levels.now in
-    let l = get_or ls c.args.i d in
-    c.loop-k.invariant d
-    ∙ ap (λ (xs : List Part). set ls c.args.i (level l.price (queue xs l.shown.wheel) l.hidden)) (mapped_all plain l.shown.parts c.loop-k.k (omega (arith, c.loop-k-test.false, ap length (c.parts-n.ensures.value d))))

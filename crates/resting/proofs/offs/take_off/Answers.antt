@@ -5,13 +5,10 @@ use Rattle.levels.specs.Sides.{levels_of}
 use Rattle.resting.proofs.Off.{without_hidden, without_shown, off_both, twice}
 use Rattle.resting.proofs.offs.take_off.Goals as goal
 
-pub off_shown-requires : goal.off_shown-requires
-off_shown-requires c =
+pub off_shown-requires-clause-place : goal.off_shown-requires-clause-place
+off_shown-requires-clause-place c =
     let ls = levels_of c.args.levels.now in
-    record {
-      place = omega (arith, c.requires.place, ap length (c.off_hidden-left.ensures.level (nothing_at 0)), length-set ls c.args.i (without_hidden c.args.order c.args.quantity (get_or ls c.args.i (nothing_at 0))));
-      room = omega (arith, c.requires.room, c.off_hidden-left.auto.room);
-    }
+    omega (arith, c.requires.place, ap length (c.off_hidden-left.ensures.level (nothing_at 0)), length-set ls c.args.i (without_hidden c.args.order c.args.quantity (get_or ls c.args.i (nothing_at 0))))
 
 pub returns : goal.returns
 returns c = λ d.

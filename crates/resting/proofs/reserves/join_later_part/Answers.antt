@@ -1,9 +1,8 @@
-use Rattle.std.proofs.Common.{◌≡◌, true, false, ltb, List, length, get_or, set, sym, ap, ◌∙◌, arith}
-use Rattle.std.proofs.lemmas.List.{length-set, get_or-set_same}
+use Rattle.std.proofs.Common.{◌≡◌, true, false, ltb, List, get_or, set, sym, ap, ◌∙◌, arith}
 use Rattle.std.proofs.lemmas.Bool.{lt-ltb, le-ltb}
 use Rattle.allocation.specs.Dealings.{sum}
 use Rattle.rules.specs.Lists.{last_alone}
-use Rattle.rules.specs.Books.{Level, level, nothing_at}
+use Rattle.rules.specs.Books.{level}
 use Rattle.rules.specs.Changes.{lose}
 use Rattle.rules.specs.Quantities.{pieces, of_order}
 use Rattle.rules.specs.Reserve.{shows_two, join_hidden}
@@ -17,27 +16,6 @@ pub returns-then-not-is_low : goal.returns-then-not-is_low
 returns-then-not-is_low c = λ d.
     let ls = levels_of c.args.levels.now in
     same_level ls c.args.i d (join_hidden c.args.lot c.args.order) (join_none c.args.lot c.args.order (get_or ls c.args.i d) (sym (c.if-not-is_low.ensures d)))
-
-pub raise-requires : goal.raise-requires
-raise-requires c =
-    let ls = levels_of c.args.levels.now in
-    let i = c.args.i in
-    let z = nothing_at 0 in
-    let l = get_or ls i z in
-    let m : Level = level l.price (lose c.latest_alone-latest.new.shares l.shown) l.hidden in
-    let one : levels_of c.lose.new.self ≡ set ls i m = c.lose.ensures z in
-    let now : get_or (levels_of c.lose.new.self) i z ≡ m = ap (λ x. get_or x i z) one ∙ get_or-set_same ls i m z c.requires.place in
-    record {
-      place = omega (arith, c.requires.place, ap length one, length-set ls i m);
-      small = omega (
-        arith,
-        c.requires.small,
-        ap (λ (x : Level). of_order c.args.order x.hidden.parts) now,
-        c.of_order.ensures,
-        ap (of_order c.args.order) (c.parts-parts.ensures.value z),
-        c.if-latest-of_order.true,
-      );
-    }
 
 pub returns-then-latest-of_order : goal.returns-then-latest-of_order
 returns-then-latest-of_order c = λ d.

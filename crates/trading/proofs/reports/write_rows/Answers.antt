@@ -1,11 +1,10 @@
-use Rattle.std.proofs.Common.{◌≡◌, ◌+◌, ◌<◌, false, List, [], length, get_or, drop, set, sym, ap, ◌∙◌, arith}
-use Rattle.std.proofs.lemmas.List.{at_drop_all}
+use Rattle.std.proofs.Common.{◌+◌, ◌<◌, false, List, length, get_or, drop, set, sym, ap, ◌∙◌, arith}
 use Rattle.rules.specs.Books.{part}
 use Rattle.rules.specs.Trading.{rows_of}
 use Rattle.rules.specs.declared.answers.Row.{Row}
 use Rattle.rules.specs.declared.answers.Row.TheVariants.{Trade}
 use Rattle.trading.specs.Written.{written}
-use Rattle.trading.proofs.Writing.{written_none, written_more, row_here, row_none}
+use Rattle.trading.proofs.Writing.{written_more, row_here, row_none}
 use Rattle.trading.proofs.reports.write_rows.Goals as goal
 use Rattle.trading.proofs.reports.write_rows.Goals.{then-quantity-gt0, else-quantity-gt0}
 
@@ -42,12 +41,3 @@ loop-i-preserved c =
             omega (arith, w.end-is, ap length here, c.loop-i.invariant.1),
           )
     ]
-
-pub returns : goal.returns
-returns c =
-    let none : rows_of c.args.step c.args.arriving c.args.price (drop c.loop-i.i c.args.parts.now) (drop c.loop-i.i c.args.shares.now) ≡ [] =
-    at_drop_all (λ l. rows_of c.args.step c.args.arriving c.args.price l (drop c.loop-i.i c.args.shares.now)) c.args.parts.now c.loop-i.i c.loop-i-test.false in
-    record {
-      rows = sym (written_none c.loop-i.report c.loop-i.end) ∙ ap (written c.loop-i.report c.loop-i.end) (sym none) ∙ c.loop-i.invariant.0;
-      count = omega (arith, ap length none, c.loop-i.invariant.1);
-    }

@@ -2,7 +2,6 @@ use Rattle.std.proofs.Common.{◌≡◌, ℕ, ◌+◌, ◌<◌, ◌≤◌, cond,
 use Rattle.std.proofs.lemmas.List.{length-drop}
 use Rattle.std.proofs.lemmas.Bool.{ltb-false}
 use Rattle.arrays.specs.Items.{items}
-use Rattle.arrays.proofs.Bounds.{length_items}
 use Rattle.rules.specs.Books.{Level}
 use Rattle.rules.specs.Rules.{holds}
 use Rattle.levels.specs.Heads.{size, span, levels}
@@ -21,18 +20,15 @@ held s i q d lt read =
 pub at-requires : goal.at-requires
 at-requires c = (lit< tt, omega (arith, c.requires, prices c.args.self.now))
 
-pub overflow_add-i : goal.overflow_add-i
-overflow_add-i c = record { fits = omega (arith, c.requires, prices c.args.self.now, length_items c.args.self.now.heads) }
-
-pub remove_range-requires : goal.remove_range-requires
-remove_range-requires c = (lit< tt, (omega arith, omega (arith, c.requires, prices c.args.self.now)))
+pub remove-requires : goal.remove-requires
+remove-requires c = (lit< tt, omega (arith, c.requires, prices c.args.self.now))
 
 pub invariant_of-self : goal.invariant_of-self
 invariant_of-self c =
     let s = c.args.self.now in
     let q = c.at.result.now in
     let none : size q ≤ 0 = ltb-false 0 (size q) (sym c.if-not-holds.ensures) in record {
-      whole = ap span c.remove_range.ensures ∙ omega (arith, span_removed (items s.heads) c.args.i q (omega (arith, c.requires, prices s)), ap size c.at.ensures, none, s.whole);
+      whole = ap span c.remove.ensures ∙ omega (arith, span_removed (items s.heads) c.args.i q (omega (arith, c.requires, prices s)), ap size c.at.ensures, none, s.whole);
       limits = s.limits;
     }
 
@@ -44,7 +40,7 @@ returns-then-not-holds c = λ d.
     let lt : i < length (items s.heads) = omega (arith, c.requires, prices s) in
     let none : size q ≤ 0 = ltb-false 0 (size q) (sym c.if-not-holds.ensures) in
     let here : size (get_or (items s.heads) i q) ≡ 0 = omega (arith, ap size c.at.ensures, none) in
-    ap (λ l. levels l (items s.parts)) c.remove_range.ensures ∙ remove_level (items s.heads) (items s.parts) i q lt here
+    ap (λ l. levels l (items s.parts)) c.remove.ensures ∙ remove_level (items s.heads) (items s.parts) i q lt here
     ∙ ap (λ t. cond t (levels_of s) (take i (levels_of s) ++ drop (i + 1) (levels_of s))) (sym (held s i q d lt c.at.ensures ∙ sym c.if-not-holds.ensures))
 
 pub returns-else-not-holds : goal.returns-else-not-holds

@@ -1,4 +1,4 @@
-use Rattle.std.proofs.Common.{◌≡◌, ◌<◌, ◌≤◌, List, length, get_or, set, sym, refl, ap, ◌∙◌, arith, lit<}
+use Rattle.std.proofs.Common.{◌≡◌, ◌<◌, ◌≤◌, List, length, get_or, set, sym, ap, ◌∙◌, arith, lit<}
 use Rattle.std.specs.List.{insert}
 use Rattle.std.proofs.lemmas.List.Edits.{length-insert}
 use Rattle.arrays.specs.Items.{items}
@@ -38,14 +38,10 @@ returns-then-not-stands g c =
       parts = count_levels (items c.insert.new.self) (items s.parts) (omega (arith, spans, s.whole)) ∙ spans ∙ s.whole ∙ sym (parts_are s);
     }
 
-pub returns-else-not-stands : goal.returns-else-not-stands
-returns-else-not-stands g c =
+pub returns-else-not-stands-clause-finds : goal.returns-else-not-stands-clause-finds
+returns-else-not-stands-clause-finds g c =
     let s = c.args.self.now in
     let i = c.seek-i.result in
     let rank = ranked_by g.K.Ranking.initial g.K.Ranking.good in
     let lt : i < length (levels_of s) = first_within c.args.price (levels_of s) i (sym c.if-not-stands.ensures) in
-    record {
-      within = lt;
-      finds = λ f d. on_found rank c.args.side c.args.price f (good_same rank (same_total g.K.Ranking.good g.met.K.Ranking.ordered) c.args.side) (levels_of s) i d lt (sym c.if-not-stands.ensures) (c.seek-i.ensures.skips f);
-      parts = refl;
-    }
+    λ f d. on_found rank c.args.side c.args.price f (good_same rank (same_total g.K.Ranking.good g.met.K.Ranking.ordered) c.args.side) (levels_of s) i d lt (sym c.if-not-stands.ensures) (c.seek-i.ensures.skips f)

@@ -1,49 +1,25 @@
-use Rattle.std.proofs.Common.{◌≡◌, ◌<◌, length, sym, refl, ap, ◌∙◌, arith}
-use Rattle.std.proofs.lemmas.List.{at_drop_more, at_drop_all}
+use Rattle.std.proofs.Common.{◌≡◌, length, not, sym, ap, ◌∙◌, arith}
+use Rattle.std.specs.List.{position_or_len}
+use Rattle.std.proofs.lemmas.List.Sums.{prefix_len-le-length}
+use Rattle.std.specs.Option.{unwrap_or}
 use Rattle.arrays.specs.Items.{items}
-use Rattle.rules.specs.Books.{nothing_at, good, ranked_by}
-use Rattle.levels.specs.Prices.{no_better}
+use Rattle.rules.specs.Books.{Level, good, ranked_by}
 use Rattle.levels.specs.Sides.{levels_of}
-use Rattle.levels.proofs.Places.{skip_more, good_same, same_total}
-use Rattle.levels.proofs.Facts.{prices, level_is}
+use Rattle.levels.specs.declared.heads.LevelHead.{LevelHead}
+use Rattle.levels.proofs.Firsts.{first_level, or_past}
+use Rattle.levels.proofs.Places.{spot, skips, stops, good_same, same_total}
 use Rattle.levels.proofs.sides.Levels.seek.Goals as goal
-
-pub loop-i-init : goal.loop-i-init
-loop-i-init g c = λ f. refl
-
-pub returns-then-at_least : goal.returns-then-at_least
-returns-then-at_least g c =
-    let s = c.args.self.now in
-    let rank = ranked_by g.K.Ranking.initial g.K.Ranking.good in
-    let lt : c.loop-i.i < length (items s.heads) = omega (arith, c.len-i-end.ensures) in
-    let long = prices s in
-    let here = level_is s c.loop-i.i c.at.result.now (nothing_at 0) lt c.at.ensures in
-    record {
-      within = omega arith;
-      skips = c.loop-i.invariant;
-      stops = at_drop_more (no_better rank c.args.side c.args.price) (levels_of s) c.loop-i.i (nothing_at 0) (omega arith)
-          ∙ ap (λ l. good rank c.args.side c.args.price l.price) here ∙ sym c.if-at_least.ensures;
-    }
-
-pub loop-i-preserved : goal.loop-i-preserved
-loop-i-preserved g c = λ f.
-    let s = c.args.self.now in
-    let rank = ranked_by g.K.Ranking.initial g.K.Ranking.good in
-    let lt : c.loop-i.i < length (items s.heads) = omega (arith, c.len-i-end.ensures) in
-    let long = prices s in
-    let here = level_is s c.loop-i.i c.at.result.now (nothing_at 0) lt c.at.ensures in
-    skip_more rank c.args.side c.args.price f (good_same rank (same_total g.K.Ranking.good g.met.K.Ranking.ordered) c.args.side) (levels_of s) c.loop-i.i (nothing_at 0) (omega arith)
-    (ap (λ l. good rank c.args.side c.args.price l.price) here ∙ sym c.if-at_least.ensures)
-    (c.loop-i.invariant f)
 
 pub returns : goal.returns
 returns g c =
     let s = c.args.self.now in
     let rank = ranked_by g.K.Ranking.initial g.K.Ranking.good in
-    let long = prices s in
-    let end : c.len.result ≡ c.loop-i.i = omega (arith, c.len.ensures, c.len-i-end.ensures, c.loop-i-test.false) in
+    let is : c.unwrap_or.result ≡ spot rank c.args.side c.args.price (levels_of s) =
+    c.unwrap_or.ensures ∙ ap (λ o. unwrap_or o (length c.as_slice-heads.result.now)) c.first_no_better.ensures
+    ∙ or_past (λ (h : LevelHead). good rank c.args.side c.args.price h.price) c.as_slice-heads.result.now
+    ∙ ap (position_or_len (λ (h : LevelHead). good rank c.args.side c.args.price h.price)) c.as_slice-heads.ensures ∙ sym (first_level (good rank c.args.side c.args.price) (items s.heads) (items s.parts)) in
     record {
-      within = omega (arith, c.len.ensures);
-      skips = λ f. rw end (c.loop-i.invariant f);
-      stops = at_drop_all (no_better rank c.args.side c.args.price) (levels_of s) c.len.result (omega (arith, c.len.ensures));
+      within = omega (arith, is, prefix_len-le-length (λ (l : Level). not (good rank c.args.side c.args.price l.price)) (levels_of s));
+      skips = λ f. rw is (skips rank c.args.side c.args.price f (good_same rank (same_total g.K.Ranking.good g.met.K.Ranking.ordered) c.args.side) (levels_of s));
+      stops = rw is (stops rank c.args.side c.args.price (levels_of s));
     }

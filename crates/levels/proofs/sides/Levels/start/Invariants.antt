@@ -3,5 +3,5 @@ use Rattle.arrays.specs.Items.{items}
 use Rattle.levels.specs.Heads.{span}
 use Rattle.levels.proofs.sides.Levels.start.Given as goal
 
-abbrev pub invariant-loop-k : goal.invariant-loop-k
-invariant-loop-k l = l.start ≡ span (take l.k (items l.self.heads))
+abbrev pub invariant-loop-head : goal.invariant-loop-head
+invariant-loop-head l = l.start ≡ span (take l.head-index (items l.self.heads))

@@ -1,4 +1,4 @@
-use Rattle.std.proofs.Common.{◌≡◌, ◌+◌, ◌<◌, List, length, get_or, take, drop, set, sym, ap, ◌∙◌, arith, lit<}
+use Rattle.std.proofs.Common.{◌≡◌, ◌+◌, ◌<◌, List, length, get_or, take, drop, set, sym, ap, ◌∙◌, arith, rules, lit<}
 use Rattle.arrays.specs.Items.{items}
 use Rattle.rules.specs.Books.{nothing_at}
 use Rattle.rules.specs.Changes.{lowered}
@@ -15,8 +15,8 @@ use Rattle.levels.proofs.sides.Levels.trade.Goals as goal
 pub at-requires : goal.at-requires
 at-requires c = (lit< tt, omega (arith, c.requires.place, prices c.args.self.now))
 
-pub lower_each-count-requires : goal.lower_each-count-requires
-lower_each-count-requires c =
+pub lower_each-count-requires-clause-each : goal.lower_each-count-requires-clause-each
+lower_each-count-requires-clause-each c =
     let s = c.args.self.now in
     let t = c.args.step in
     let q = c.at.result.now in
@@ -27,10 +27,7 @@ lower_each-count-requires c =
     let lt : c.args.i < length hs = omega (arith, c.requires.place, prices s) in
     let start = c.queue_start-start.ensures.start q in
     let many : n ≡ (head_of t (get_or hs c.args.i q)).count = ap (λ x. x.count) (c.queue.ensures ∙ ap (head_of t) c.at.ensures) in
-    record {
-      place = omega (arith, c.queue_start-start.ensures.within q, many);
-      each = c.requires.each ∙ ap length (sym (parts_here t hs ps c.args.i k n q lt start many (nothing_at 0))) ∙ length_here t hs ps c.args.i k n q lt start many (omega (arith, s.whole));
-    }
+    c.requires.each ∙ ap length (sym (parts_here t hs ps c.args.i k n q lt start many (nothing_at 0))) ∙ length_here t hs ps c.args.i k n q lt start many (omega (arith, s.whole))
 
 pub edit-requires : goal.edit-requires
 edit-requires c = (lit< tt, omega (arith, c.requires.place, prices c.args.self.now))
@@ -45,9 +42,11 @@ invariant_of-self c =
     let ps = items s.parts in
     let k = c.queue_start-start.result in
     let n = c.queue.result.now.count in
+    let heads : items c.edit.new.self ≡ set hs c.args.i (with_head t (queue_head c.args.wheel f.result) (get_or hs c.args.i q)) =
+    (c.edit.ensures q).2 ∙ ap (set hs c.args.i) (search rules) in
     let many : n ≡ (head_of t (get_or hs c.args.i q)).count = ap (λ x. x.count) (c.queue.ensures ∙ ap (head_of t) c.at.ensures) in
     let mid : List Part = lowered (take n (drop k ps)) c.args.shares.now in record {
-      whole = ap span (c.edit.ensures q)
+      whole = ap span heads
           ∙ whole_law t hs ps c.args.i k n q (omega (arith, c.requires.place, prices s)) (c.queue_start-start.ensures.start q) many mid f.result c.args.wheel s.whole f.ensures.count
           ∙ ap length (sym f.ensures.after);
       limits =
@@ -64,7 +63,9 @@ returns c = λ d.
     let ps = items s.parts in
     let k = c.queue_start-start.result in
     let n = c.queue.result.now.count in
+    let heads : items c.edit.new.self ≡ set hs c.args.i (with_head t (queue_head c.args.wheel f.result) (get_or hs c.args.i q)) =
+    (c.edit.ensures q).2 ∙ ap (set hs c.args.i) (search rules) in
     let many : n ≡ (head_of t (get_or hs c.args.i q)).count = ap (λ x. x.count) (c.queue.ensures ∙ ap (head_of t) c.at.ensures) in
-    ap (λ l. levels l (items f.new.parts)) (c.edit.ensures q)
+    ap (λ l. levels l (items f.new.parts)) heads
     ∙ ap (levels (set hs c.args.i (with_head t (queue_head c.args.wheel f.result) (get_or hs c.args.i q)))) f.ensures.after
     ∙ lower_law t hs ps c.args.i k n q (omega (arith, c.requires.place, prices s)) (c.queue_start-start.ensures.start q) many c.args.shares.now f.result c.args.wheel d (omega (arith, s.whole)) f.ensures.count

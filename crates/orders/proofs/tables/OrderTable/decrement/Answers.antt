@@ -1,16 +1,9 @@
-use Rattle.std.proofs.Common.{set, ap, ◌∙◌, arith}
-use Rattle.arrays.proofs.Fronts.{set_front}
+use Rattle.std.proofs.Common.{◌≡◌, get_or, set, ap, ◌∙◌, rules}
 use Rattle.orders.specs.Rows.{rows_of, less}
-use Rattle.orders.proofs.Fronted.{front_at, blank}
 use Rattle.orders.proofs.tables.OrderTable.decrement.Goals as goal
-
-pub decrement-requires : goal.decrement-requires
-decrement-requires c =
-    let t = c.args.self.now in
-    omega (arith, ap (λ r. r.quantity) (front_at t.len t.rows c.args.i blank blank (omega (arith, t.fits, t.sized)) c.requires.place), c.requires.there blank)
 
 pub returns : goal.returns
 returns c = λ d.
-    let t = c.args.self.now in
-    set_front t.len t.rows c.args.i c.decrement.new.self
-    ∙ ap (set (rows_of t) c.args.i) (c.decrement.ensures ∙ ap (λ r. less r c.args.n) (front_at t.len t.rows c.args.i blank d (omega (arith, t.fits, t.sized)) c.requires.place))
+    let e = c.edit.ensures d in
+    let y : e.0 ≡ less (get_or (rows_of c.args.self.now) c.args.i d) c.args.n = search rules in
+    e.2 ∙ ap (set (rows_of c.args.self.now) c.args.i) y

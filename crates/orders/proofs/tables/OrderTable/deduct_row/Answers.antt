@@ -1,31 +1,33 @@
-use Rattle.std.proofs.Common.{◌<◌, ◌≤◌, length, sym, ap, ◌∙◌, subst}
+use Rattle.std.proofs.Common.{◌≤◌, sym, ap, ◌∙◌, subst}
 use Rattle.std.specs.List.{AllByRecursion}
+use Rattle.arrays.proofs.Found.{FirstAt, first_at, nowhere}
 use Rattle.rules.specs.Invariants.{numbers}
 use Rattle.rules.specs.declared.answers.Row.{Row}
 use Rattle.orders.specs.Rows.{rows_of, orders_of}
 use Rattle.orders.specs.Deducted.{takes, deducted_by, Named}
-use Rattle.orders.proofs.Fronted.{blank}
-use Rattle.orders.proofs.Taken.{found_within, one_row, enough_at, none_taken}
+use Rattle.orders.specs.declared.tables.Resting.{Resting}
+use Rattle.orders.proofs.Taken.{blank, never_missing, one_row, enough_at, none_taken}
 use Rattle.orders.proofs.tables.OrderTable.deduct_row.Goals as goal
 
-pub decrement-requires : goal.decrement-requires
-decrement-requires c =
+pub decrement-requires-clause-there : goal.decrement-requires-clause-there
+decrement-requires-clause-there c = λ d.
     let rs = rows_of c.args.self.now in
     let n = c.in-Trade.resting in
-    let f = c.find-i.ensures in
-    let lt : c.find-i.result < length rs = found_within n rs c.find-i.result f.within f.others (subst (Named (numbers (orders_of c.args.self.now))) c.in-Trade.is c.requires.named) in
-    record {
-      place = lt;
-      there = λ d. enough_at n c.in-Trade.quantity rs c.find-i.result d lt (f.found d lt) (subst (λ (x : Row). AllByRecursion (λ r. takes r.order.number x ≤ r.quantity) rs) c.in-Trade.is c.requires.enough);
-    }
+    let f : FirstAt (λ (r : Resting). r.order.number) n rs c.in-Some.i = first_at _ n rs c.in-Some.i (sym c.find.ensures ∙ c.in-Some.is) in
+    enough_at n c.in-Trade.quantity rs c.in-Some.i d f.within (f.found d) (subst (λ (x : Row). AllByRecursion (λ r. takes r.order.number x ≤ r.quantity) rs) c.in-Trade.is c.requires.enough)
 
-pub returns-in-Trade : goal.returns-in-Trade
-returns-in-Trade c =
+pub returns-in-Some : goal.returns-in-Some
+returns-in-Some c =
     let rs = rows_of c.args.self.now in
     let n = c.in-Trade.resting in
-    let f = c.find-i.ensures in
-    let lt : c.find-i.result < length rs = found_within n rs c.find-i.result f.within f.others (subst (Named (numbers (orders_of c.args.self.now))) c.in-Trade.is c.requires.named) in
-    c.decrement.ensures blank ∙ one_row n c.in-Trade.quantity rs c.find-i.result blank c.requires.once lt (f.found blank lt) f.others ∙ ap (λ (x : Row). deducted_by x rs) (sym c.in-Trade.is)
+    let f : FirstAt (λ (r : Resting). r.order.number) n rs c.in-Some.i = first_at _ n rs c.in-Some.i (sym c.find.ensures ∙ c.in-Some.is) in
+    c.decrement.ensures blank ∙ one_row n c.in-Trade.quantity rs c.in-Some.i blank c.requires.once f.within (f.found blank) f.others ∙ ap (λ (x : Row). deducted_by x rs) (sym c.in-Trade.is)
+
+pub returns-in_default : goal.returns-in_default
+returns-in_default c =
+    absurd (never_missing c.in-Trade.resting (rows_of c.args.self.now)
+    (nowhere (λ (r : Resting). r.order.number) c.in-Trade.resting (rows_of c.args.self.now) (sym c.find.ensures ∙ c.in_default.is))
+    (subst (Named (numbers (orders_of c.args.self.now))) c.in-Trade.is c.requires.named))
 
 pub returns-in-GivenBack : goal.returns-in-GivenBack
 returns-in-GivenBack c =

@@ -2,27 +2,19 @@ use Rattle.std.proofs.Common.{◌<◌, length, sym, ap, ◌∙◌, arith}
 use Rattle.rules.specs.Books.{nothing_at, ranked_by}
 use Rattle.levels.specs.Sides.{levels_of}
 use Rattle.trading.specs.Reached.{reached}
-use Rattle.trading.proofs.Touring.{tour_ready, tour_room, tour_more, tour_past, tour_over, over_levels, over_quantity}
-use Rattle.trading.proofs.prices.trade_side.Goals as goal
-use Rattle.trading.proofs.prices.trade_side.Goals.{then-has, else-has}
+use Rattle.trading.proofs.Touring.{tour_room, tour_more, tour_past, tour_over, over_levels, over_quantity}
+use Rattle.trading.proofs.states.Terms.trade_side.Goals as goal
+use Rattle.trading.proofs.states.Terms.trade_side.Goals.{then-has, else-has}
 
-pub trade_price-now-requires : goal.trade_price-now-requires
-trade_price-now-requires g c =
-    let lt : c.loop-i.i < length (levels_of c.loop-i.levels) = omega (arith, c.len.ensures.count) in
+pub trade_price-now-requires-clause-rows : goal.trade_price-now-requires-clause-rows
+trade_price-now-requires-clause-rows g c =
+    let lt : c.loop-i.i < length (levels_of c.loop-i.levels) = omega (arith, c.len-i-end.ensures.count, c.loop-i.invariant.size) in
     let reach = reached (ranked_by g.K.Ranking.initial g.K.Ranking.good) c.args.reach in
-    record {
-      place = lt;
-      ready = tour_ready c.loop-i.invariant c.requires.rows lt;
-      rows = tour_room c.loop-i.invariant c.requires.rows lt (ap reach (sym (c.price.ensures (nothing_at 0))) ∙ sym c.if-has.ensures);
-      room = omega (arith, c.requires.room, c.loop-i.auto.room);
-    }
-
-pub loop-i-smaller : goal.loop-i-smaller
-loop-i-smaller g c = omega (arith, c.len.ensures.most)
+    tour_room c.loop-i.invariant c.requires.rows lt (ap reach (sym (c.price.ensures (nothing_at 0))) ∙ sym c.if-has.ensures)
 
 pub loop-i-preserved : goal.loop-i-preserved
 loop-i-preserved g c =
-    let lt : c.loop-i.i < length (levels_of c.loop-i.levels) = omega (arith, c.len.ensures.count) in
+    let lt : c.loop-i.i < length (levels_of c.loop-i.levels) = omega (arith, c.len-i-end.ensures.count, c.loop-i.invariant.size) in
     let reach = reached (ranked_by g.K.Ranking.initial g.K.Ranking.good) c.args.reach in
     elim c.if-has.branch [
       | then-has w ↦
@@ -33,12 +25,12 @@ loop-i-preserved g c =
           (ap levels_of w.levels-is) (ap (λ x. x.left) w.now-is) w.report-is (ap (λ x. x.rows) w.now-is)
     ]
 
-pub returns-else-now-gt0 : goal.returns-else-now-gt0
-returns-else-now-gt0 g c =
+pub returns-then-now-eq0 : goal.returns-then-now-eq0
+returns-then-now-eq0 g c =
     let all = tour_over c.loop-i.invariant c.requires.rows (over_quantity c.loop-i.invariant c.requires.rows (omega arith)) in
     record { levels = all.0; left = all.1; rows = all.2; count = all.3 }
 
 pub returns-after-loop-i : goal.returns-after-loop-i
 returns-after-loop-i g c =
-    let all = tour_over c.loop-i.invariant c.requires.rows (over_levels c.loop-i.invariant c.requires.rows (omega (arith, c.len.ensures.count))) in
+    let all = tour_over c.loop-i.invariant c.requires.rows (over_levels c.loop-i.invariant c.requires.rows (omega (arith, c.len-i-end.ensures.count, c.loop-i.invariant.size))) in
     record { levels = all.0; left = all.1; rows = all.2; count = all.3 }
