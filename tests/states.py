@@ -17,14 +17,14 @@ ROOT = pathlib.Path(__file__).resolve().parent.parent
 CRATE = "crates/entering"
 SOURCE = "src/entering.rt"
 TEST = "\n#[test]\nfn nothing() {}\n"
-TRADE = "    let traded = arrived.trade::<K, D>(state, dealing, report);\n"
-PLACE = "    let placed = traded.place::<K>(state, report);\n"
+TRADE = "    let traded = arrived.trade::<K, D>(&mut book.state, dealing, report);\n"
+PLACE = "    let placed = traded.place::<K>(&mut book.state, report);\n"
 
 # what is tried, the right lines, the wrong ones, what the compiler must say
 USES = [
     ("an order is placed that has not traded", TRADE + PLACE, PLACE.replace("traded", "arrived"), ["error[unknown-method]", "`place`", "`Arrived`"]),
     ("an order is placed twice", PLACE, PLACE + PLACE.replace("placed", "again") + "    let _ = again.reply();\n", ["error[borrow-e0382]", "use of moved value: `traded`"]),
-    ("an order trades twice", TRADE, TRADE + TRADE.replace("traded", "again") + "    let _ = again.place::<K>(state, report).reply();\n", ["error[borrow-e0382]", "use of moved value: `arrived`"]),
+    ("an order trades twice", TRADE, TRADE + TRADE.replace("traded", "again") + "    let _ = again.place::<K>(&mut book.state, report).reply();\n", ["error[borrow-e0382]", "use of moved value: `arrived`"]),
     ("an order comes in and is let go", TRADE, "    let _late = arrive(order);\n" + TRADE, ["error[linear-value-let-go]", "`Arrived` is not `Drop`"]),
     ("an order is made by hand outside of the module of the states", "    let arrived = arrive(order);\n", "    let arrived = crate::stages::Arrived { order };\n", ["error[private-field]", "`order`", "`Arrived` is private"]),
 ]

@@ -1,3 +1,2 @@
-mod Orders
-mod Sealed
+mod Making
 mod Turned

@@ -1,17 +1,25 @@
 //! A book, for every ranking and every dealing.
-use crate::keeping::{KeepsBook, RankedMemory};
-use allocation::Dealing;
+use allocation::{Dealing, Ranking};
+use memory::Standing;
+use std::marker::Model;
 
 mod calling;
 mod looking;
 mod making;
 
-/// A book in a ranked memory, dealt by `D`. Only its own calls change it.
+/// A book ranked by `K` and dealt by `D`, as `Book<Buyers, Parity>`. Only its own calls change it.
+/// A contract sees it as the rules' book.
 #[derive(Drop)]
-pub struct RankedBook<M: RankedMemory, D: Dealing> {
-    memory: M,
+pub struct Book<K: Ranking, D: Dealing> {
+    memory: Standing<K>,
     dealing: D,
 }
 
-/// A book ranked by `K` and dealt by `D`, as `Book<Buyers, Parity>`.
-pub type Book<K, D> = RankedBook<<K as KeepsBook>::Memory, D>;
+impl<K: Ranking, D: Dealing> Model for Book<K, D> {
+    ghost use Rattle.rules.specs.Books.{Book as RuleBook};
+    ghost use Rattle.memory.specs.States.{book_of};
+
+    ghost Value = { RuleBook };
+
+    ghost view = { λ b. book_of b.memory.state };
+}

@@ -2,11 +2,7 @@
 #![tactic(auto)]
 
 mod books;
-mod keeping;
 mod laws;
-mod rankings;
 
-pub use books::{Book, RankedBook};
-pub use keeping::{KeepsBook, RankedMemory};
+pub use books::Book;
 pub use laws::letters_answer_alike;
-pub use rankings::{BuyersMemory, SellersMemory};

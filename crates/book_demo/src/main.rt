@@ -4,9 +4,8 @@
 mod printing;
 mod session;
 
-use allocation::{Buyers, Dealing, Parity, Time};
-use anyhow::anyhow;
-use book::{Book, RankedBook, RankedMemory};
+use allocation::{Buyers, Dealing, Parity, Ranking, Time};
+use book::Book;
 use printing::{show_book, show_call};
 use rules::{Call, Row};
 use session::{calls_after_it, worked_session};
@@ -21,9 +20,9 @@ const NONE: Row = Row::GivenBack {
 };
 
 /// Makes calls, and prints each with its rows, and the book after the last.
-fn play<M: RankedMemory, D: Dealing>(
+fn play<K: Ranking, D: Dealing>(
     rt: &HostRuntime,
-    book: &mut RankedBook<M, D>,
+    book: &mut Book<K, D>,
     calls: &[Call],
     report: &mut [Row],
 ) -> anyhow::Result<()> {
@@ -36,9 +35,7 @@ fn play<M: RankedMemory, D: Dealing>(
 
 /// Plays the session on a new book, and prints what came of it.
 fn play_on_new<D: Dealing + Default + Drop>(rt: &HostRuntime) -> anyhow::Result<()> {
-    let Ok(mut book) = Book::<Buyers, D>::new(LOT) else {
-        return Err(anyhow!("a round lot is from 1 to 1,000"));
-    };
+    let mut book = Book::<Buyers, D>::new(LOT)?;
     let mut report = [NONE; 400];
     play(rt, &mut book, &worked_session(), &mut report)?;
     play(rt, &mut book, &calls_after_it(), &mut report)

@@ -2,35 +2,39 @@
 ghost use Rattle.std.specs.Prelude.{◌<◌, length};
 ghost use Rattle.levels.specs.Sides.{levels_of};
 
-use allocation::Dealing;
-use book::{RankedBook, RankedMemory};
+use allocation::{Dealing, Ranking};
+use book::Book;
 use levels::Levels;
 use memory::Reply;
-use rules::{Call, Category, Row, Side, Step};
+use rules::{
+    Call, Category, Columns, Part, Refusal, Row, Side, Step, answer_code, given_back, traded,
+};
 
 /// The name of a call, with the number of its order.
+// No `Display`: that would belong to the rule book, and these words are the demonstration's.
 fn name(call: Call) -> (&'static str, u32) {
     match call {
         Call::Open => ("open", 0),
         Call::Halt => ("halt", 0),
         Call::Resume => ("resume", 0),
         Call::Close => ("close", 0),
-        Call::Quote { bid: _, offer: _ } => ("quote", 0),
+        Call::Quote { .. } => ("quote", 0),
         Call::Enter(order) => ("enter", order.number),
         Call::Cancel { order } => ("cancel", order),
-        Call::Reduce { order, quantity: _ } => ("reduce", order),
+        Call::Reduce { order, .. } => ("reduce", order),
     }
 }
 
 /// Prints a row of the report.
 fn show_row(rt: &HostRuntime, row: Row) -> anyhow::Result<()> {
-    let columns = row.columns();
-    let letter = columns.letter;
-    let step = columns.step;
-    let order = columns.order;
-    let arriving = columns.arriving;
-    let price = columns.price;
-    let quantity = columns.quantity;
+    let Columns {
+        letter,
+        step,
+        order,
+        arriving,
+        price,
+        quantity,
+    } = row.columns();
     println!(rt;
         "    {letter}{step} order {order}, arriving {arriving}, price {price}, quantity {quantity}"
     )?;
@@ -41,15 +45,17 @@ fn show_row(rt: &HostRuntime, row: Row) -> anyhow::Result<()> {
 pub(crate) fn show_call(
     rt: &HostRuntime,
     call: Call,
-    reply: Reply,
+    reply: Result<Reply, Refusal>,
     report: &[Row],
 ) -> anyhow::Result<()> {
     let (what, order) = name(call);
-    let code = reply.answer.code();
-    let traded = reply.answer.traded();
-    let given_back = reply.answer.given_back();
+    let answer = reply.map(|reply| reply.accepted);
+    let code = answer_code(answer);
+    let traded = traded(answer);
+    let given_back = given_back(answer);
+    let rows = reply.map_or(0, |reply| reply.rows);
     println!(rt; "  {what} {order}: answer {code}, traded {traded}, given back {given_back}")?;
-    for row in report.iter().take(reply.rows) {
+    for row in report.iter().take(rows) {
         show_row(rt, *row)?;
     }
     Ok(())
@@ -58,51 +64,55 @@ pub(crate) fn show_call(
 /// Prints the parts and the wheel of one category at the level at `i`.
 fn show_queue(
     rt: &HostRuntime,
-    letter: char,
+    side: Side,
     levels: &Levels,
     i: usize,
-    category: Category,
+    step: Step,
 ) -> anyhow::Result<()>
     requires { i < length (levels_of levels.now) }
 {
-    let step = match category {
-        Category::Displayed => Step::Displayed,
-        Category::Hidden => Step::Hidden,
+    let category = match step {
+        Step::Setter | Step::Displayed => Category::Displayed,
+        Step::Hidden => Category::Hidden,
     };
     let number = category.number();
     let price = levels.price(i);
     for part in levels.parts(i, step) {
-        let order = part.order;
-        let participant = part.participant;
-        let quantity = part.quantity;
-        let mark = if part.marked { '*' } else { '.' };
+        let Part {
+            order,
+            participant,
+            quantity,
+            marked,
+        } = *part;
+        let mark = if marked { '*' } else { '.' };
         println!(rt;
-            "  {letter}{number} order {order}, participant {participant}, price {price}, quantity {quantity}{mark}"
+            "  {side}{number} order {order}, participant {participant}, price {price}, quantity {quantity}{mark}"
         )?;
     }
     let wheel = levels.wheel(i, step);
     let seats = wheel.seats();
     let used = wheel.used();
-    if let Some(_) = seats.first() {
-        println!(rt; "  {letter}{number} wheel at {price}: used {used}, seats {seats:?}")?;
+    if !seats.is_empty() {
+        println!(rt; "  {side}{number} wheel at {price}: used {used}, seats {seats:?}")?;
     }
     Ok(())
 }
 
 /// Prints one side, best price first.
-fn show_side(rt: &HostRuntime, letter: char, levels: &Levels) -> anyhow::Result<()> {
+fn show_side(rt: &HostRuntime, side: Side, levels: &Levels) -> anyhow::Result<()> {
+    // By place: each step can fail, and a level has no value of its own in memory.
     for i in 0..levels.len() {
-        show_queue(rt, letter, levels, i, Category::Displayed)?;
-        show_queue(rt, letter, levels, i, Category::Hidden)?;
+        show_queue(rt, side, levels, i, Step::Displayed)?;
+        show_queue(rt, side, levels, i, Step::Hidden)?;
     }
     Ok(())
 }
 
 /// Prints both sides, buys first.
-pub(crate) fn show_book<M: RankedMemory, D: Dealing>(
+pub(crate) fn show_book<K: Ranking, D: Dealing>(
     rt: &HostRuntime,
-    book: &RankedBook<M, D>,
+    book: &Book<K, D>,
 ) -> anyhow::Result<()> {
-    show_side(rt, Side::Buy.letter(), book.side(Side::Buy))?;
-    show_side(rt, Side::Sell.letter(), book.side(Side::Sell))
+    show_side(rt, Side::Buy, book.side(Side::Buy))?;
+    show_side(rt, Side::Sell, book.side(Side::Sell))
 }

@@ -1,5 +1,5 @@
 -- Calls that trade nothing and give nothing back: what the rule makes of a sound book.
-use Rattle.std.proofs.Common.{◌≡◌, ℕ, ◌+◌, ◌<◌, ◌≤◌, true, false, not, ◌&&◌, ◌||◌, List, [], ◌∷◌, map, length, Some, None, sym, refl, ap, ◌∙◌, subst}
+use Rattle.std.proofs.Common.{◌≡◌, ℕ, ◌+◌, ◌<◌, ◌≤◌, true, false, not, ◌&&◌, ◌||◌, List, [], ◌∷◌, map, length, Some, None, sym, refl, ap, ◌∙◌, subst, Ok}
 use Rattle.std.specs.List.{AllByRecursion}
 use Rattle.std.proofs.ByRecursion.{All-weaker}
 use Rattle.allocation.specs.Dealings.{Deal}
@@ -8,7 +8,7 @@ use Rattle.rules.specs.declared.orders.Part.{Part}
 use Rattle.rules.specs.declared.phases.Phase.{Phase}
 use Rattle.rules.specs.declared.calls.Call.{Call}
 use Rattle.rules.specs.declared.calls.Call.TheVariants.{Open, Halt, Resume, Quote}
-use Rattle.rules.specs.declared.answers.Answer.TheVariants.{Accepted}
+use Rattle.rules.specs.Codes.{accepted}
 use Rattle.rules.specs.declared.answers.Refusal.TheVariants as Refusal
 use Rattle.rules.specs.declared.answers.Row.{Row}
 use Rattle.rules.specs.Books.{Level, Ranking, Book, part, with_sides, with_phase, with_quote}
@@ -31,10 +31,10 @@ use Rattle.memory.specs.declared.states.State.{State}
 
 pub quiet : (rank : Ranking) (deal : Deal) (c : Call) (p : Phase) (x : Book) (before after : State) (rows : List Row) → first (refusals (book_of before) (length rows) c) ≡ None
     → phase_after before.phase c ≡ Some p → effect rank deal (book_of before) c ≡ done 0 0 [] x → tidy (with_phase p x) ≡ book_of after → Tallied (rows_of after.orders) (book_of after)
-    → Follows rank deal c before rows after rows (record { answer = Accepted 0 0; rows = 0 })
+    → Follows rank deal c before rows after rows (Ok (record { accepted = record { traded = 0; given_back = 0 }; rows = 0 }))
 unfolding rule
 quiet rank deal c p x before after rows fine phase does tidied tallied =
-    let is : rule rank deal (book_of before) (length rows) c ≡ record { answer = Accepted 0 0; rows = []; book = tidy (with_phase p x) } =
+    let is : rule rank deal (book_of before) (length rows) c ≡ record { answer = accepted 0 0; rows = []; book = tidy (with_phase p x) } =
     ap (λ o. ruled o rank deal (book_of before) c) fine ∙ ap (λ q. settled (next_phase before.phase q) (effect rank deal (book_of before) c)) phase ∙ ap (settled p) does in
     record {
       reply = ap replied (sym is);
@@ -61,26 +61,26 @@ module _ (rank : Ranking) (deal : Deal) (before after : State) (rows : List Row)
   -- a book x with the same orders, of which as much rests as before
   changed : (c : Call) (q : Phase) (x : Book) → first (refusals b (length rows) c) ≡ None → phase_after b.phase c ≡ Some q → effect rank deal b c ≡ done 0 0 [] x
       → AllByRecursion (λ l. holds l ≡ true) x.buys → AllByRecursion (λ l. holds l ≡ true) x.sells → x.orders ≡ b.orders → ((n : ℕ) → resting n x ≡ resting n b) → book_of after ≡ with_phase q x
-      → Follows rank deal c before rows after rows (record { answer = Accepted 0 0; rows = 0 })
+      → Follows rank deal c before rows after rows (Ok (record { accepted = record { traded = 0; given_back = 0 }; rows = 0 }))
   changed c q x fine next does buys sells orders same is =
       let still : AllByRecursion (λ e. 0 < resting e.number x) x.orders =
       subst (λ es. AllByRecursion (λ e. 0 < resting e.number x) es) (sym orders) (All-weaker (λ (e : Order). 0 < resting e.number b) (λ e. 0 < resting e.number x) (λ e h. subst (λ m. 0 < m) (sym (same e.number)) h) b.orders rests) in
       quiet rank deal c q x before after rows fine next does (tidy_still (with_phase q x) buys sells still ∙ sym is)
       (same_tally b (book_of after) (rows_of before.orders) (rows_of after.orders) table (λ n. ap (resting n) is ∙ same n) s.tallied)
 
-  pub opened : b.phase ≡ Phase.New → book_of after ≡ with_phase Phase.Open b → Follows rank deal Open before rows after rows (record { answer = Accepted 0 0; rows = 0 })
+  pub opened : b.phase ≡ Phase.New → book_of after ≡ with_phase Phase.Open b → Follows rank deal Open before rows after rows (Ok (record { accepted = record { traded = 0; given_back = 0 }; rows = 0 }))
   unfolding refusals effect
   opened at is =
       changed Open Phase.Open b (ap (λ p. first ((Refusal.Phase, none (phase_after p Open)) ∷ [])) at) (ap (λ p. phase_after p Open) at) refl s.sound.buys.occupied s.sound.sells.occupied refl (λ n. refl) is
 
-  pub resumed : b.phase ≡ Phase.Halted → book_of after ≡ with_phase Phase.Open b → Follows rank deal Resume before rows after rows (record { answer = Accepted 0 0; rows = 0 })
+  pub resumed : b.phase ≡ Phase.Halted → book_of after ≡ with_phase Phase.Open b → Follows rank deal Resume before rows after rows (Ok (record { accepted = record { traded = 0; given_back = 0 }; rows = 0 }))
   unfolding refusals effect
   resumed at is =
       changed Resume Phase.Open b (ap (λ p. first ((Refusal.Phase, none (phase_after p Resume)) ∷ [])) at) (ap (λ p. phase_after p Resume) at) refl s.sound.buys.occupied s.sound.sells.occupied refl (λ n. refl) is
 
   -- a quote leaves the phase as it is
   pub requoted : (bid offer : ℕ) → (bad_away bid || bad_away offer) ≡ false → phase_after b.phase (Quote bid offer) ≡ Some b.phase → book_of after ≡ with_quote bid offer b
-      → Follows rank deal (Quote bid offer) before rows after rows (record { answer = Accepted 0 0; rows = 0 })
+      → Follows rank deal (Quote bid offer) before rows after rows (Ok (record { accepted = record { traded = 0; given_back = 0 }; rows = 0 }))
   unfolding refusals effect
   requoted bid offer fine next is =
       changed (Quote bid offer) b.phase (with_quote bid offer b)
@@ -92,7 +92,7 @@ module _ (rank : Ranking) (deal : Deal) (before after : State) (rows : List Row)
   plain_holds (l ∷ ls) h = (ap (λ t. not (t && empty l.hidden.parts)) (plain_empty l.shown.parts) ∙ h.0, plain_holds ls h.1)
 
   -- a halt loses every mark
-  pub halted : b.phase ≡ Phase.Open → book_of after ≡ with_phase Phase.Halted (with_sides (unmarked b.buys) (unmarked b.sells) b) → Follows rank deal Halt before rows after rows (record { answer = Accepted 0 0; rows = 0 })
+  pub halted : b.phase ≡ Phase.Open → book_of after ≡ with_phase Phase.Halted (with_sides (unmarked b.buys) (unmarked b.sells) b) → Follows rank deal Halt before rows after rows (Ok (record { accepted = record { traded = 0; given_back = 0 }; rows = 0 }))
   unfolding refusals effect
   halted at is =
       changed Halt Phase.Halted (with_sides (unmarked b.buys) (unmarked b.sells) b) (ap (λ p. first ((Refusal.Phase, none (phase_after p Halt)) ∷ [])) at) (ap (λ p. phase_after p Halt) at) refl

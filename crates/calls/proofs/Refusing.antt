@@ -1,11 +1,10 @@
 -- Which refusal comes first, and what a refused call leaves.
-use Rattle.std.proofs.Common.{◌≡◌, ℕ, Bool, true, false, cond, eqb, leb, List, [], ◌∷◌, ◌++◌, length, Some, None, Option, sym, refl, ap, ◌∙◌, subst}
+use Rattle.std.proofs.Common.{◌≡◌, ℕ, Bool, true, false, cond, eqb, leb, List, [], ◌∷◌, ◌++◌, length, Some, None, Option, sym, refl, ap, ◌∙◌, subst, Err, Result}
 use Rattle.std.specs.List.{AllByRecursion}
 use Rattle.allocation.specs.Dealings.{Deal}
 use Rattle.rules.specs.declared.calls.Call.{Call}
 use Rattle.rules.specs.declared.calls.Call.TheVariants.{Open, Halt, Resume, Close, Quote, Enter, Cancel, Reduce}
 use Rattle.rules.specs.declared.orders.Order.{Order}
-use Rattle.rules.specs.declared.answers.Answer.TheVariants.{Refused}
 use Rattle.rules.specs.declared.answers.Refusal.{Refusal}
 use Rattle.rules.specs.declared.answers.Row.{Row}
 use Rattle.rules.specs.Books.{Ranking, Book}
@@ -19,7 +18,7 @@ use Rattle.memory.specs.States.{book_of, Stands}
 use Rattle.memory.specs.Following.{Follows, replied}
 use Rattle.memory.specs.declared.states.State.{State}
 use Rattle.memory.specs.declared.replies.Reply.{Reply}
-use Rattle.calls.specs.Inputs.{inputs, entry_inputs, refused_with}
+use Rattle.calls.specs.Inputs.{inputs, entry_inputs}
 
 -- the refusals of the book's state that come after the phase's
 abbrev later : Book → Call → List (Refusal × Bool)
@@ -69,10 +68,10 @@ pub refused_phase : (b : Book) (room : ℕ) (c : Call) → first (inputs b.lot r
 refused_phase b room c e p = first_of b room c ∙ ap (λ o. either o (first ((Refusal.Phase, out_of_phase b c) ∷ later b c))) e ∙ ap (λ o. first ((Refusal.Phase, none o) ∷ later b c)) p
 
 -- a refused call leaves memory and report as they were
-pub refused_follows : (rank : Ranking) (deal : Deal) (c : Call) (s : State) (rows : List Row) (r : Refusal) → Stands rank s → first (refusals (book_of s) (length rows) c) ≡ Some r → Follows rank deal c s rows s rows (refused_with r)
+pub refused_follows : (rank : Ranking) (deal : Deal) (c : Call) (s : State) (rows : List Row) (r : Refusal) → Stands rank s → first (refusals (book_of s) (length rows) c) ≡ Some r → Follows rank deal c s rows s rows (Err r)
 unfolding rule
 refused_follows rank deal c s rows r stands e =
-    let is : rule rank deal (book_of s) (length rows) c ≡ record { answer = Refused r; rows = []; book = book_of s } = ap (λ o. ruled o rank deal (book_of s) c) e in
+    let is : rule rank deal (book_of s) (length rows) c ≡ record { answer = Err r; rows = []; book = book_of s } = ap (λ o. ruled o rank deal (book_of s) c) e in
     record {
       reply = ap replied (sym is);
       report = sym (ap (λ d. written rows 0 d.rows) is ∙ written_none rows 0);
@@ -81,11 +80,11 @@ refused_follows rank deal c s rows r stands e =
     }
 
 -- a call by another name
-pub for_call : {rank : Ranking} {deal : Deal} {before after : State} {rows rows' : List Row} {r : Reply} (c d : Call) → c ≡ d → Follows rank deal d before rows after rows' r → Follows rank deal c before rows after rows' r
+pub for_call : {rank : Ranking} {deal : Deal} {before after : State} {rows rows' : List Row} {r : Result Reply Refusal} (c d : Call) → c ≡ d → Follows rank deal d before rows after rows' r → Follows rank deal c before rows after rows' r
 for_call {rank} {deal} {before} {after} {rows} {rows'} {r} c d e f = subst (λ x. Follows rank deal x before rows after rows' r) (sym e) f
 
 -- the same reply
-pub for_reply : {rank : Ranking} {deal : Deal} {c : Call} {before after : State} {rows rows' : List Row} {r q : Reply} → r ≡ q → Follows rank deal c before rows after rows' q → Follows rank deal c before rows after rows' r
+pub for_reply : {rank : Ranking} {deal : Deal} {c : Call} {before after : State} {rows rows' : List Row} {r q : Result Reply Refusal} → r ≡ q → Follows rank deal c before rows after rows' q → Follows rank deal c before rows after rows' r
 for_reply {rank} {deal} {c} {before} {after} {rows} {rows'} {r} {q} e f = subst (λ x. Follows rank deal c before rows after rows' x) (sym e) f
 
 -- what an order says is fine, test by test

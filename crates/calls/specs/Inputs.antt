@@ -1,12 +1,10 @@
 -- The refusals of a call for what the caller gave: those that come before the book's state is looked at. Assumes nothing.
 use Rattle.std.specs.Prelude.{ℕ, ◌%◌, Bool, not, ◌&&◌, ◌||◌, List, [], ◌∷◌, ◌==◌, nat_le}
-use Rattle.memory.specs.declared.replies.Reply.{Reply}
 use Rattle.rules.specs.Codes.{highest_price}
 use Rattle.rules.specs.Refusals.{within, bad_number, bad_participant, bad_quantity, bad_price, bad_display, small_report, bad_away}
 use Rattle.rules.specs.declared.orders.Order.{Order}
 use Rattle.rules.specs.declared.calls.Call.{Call}
 use Rattle.rules.specs.declared.calls.Call.TheVariants.{Open, Halt, Resume, Close, Quote, Enter, Cancel, Reduce}
-use Rattle.rules.specs.declared.answers.Answer.TheVariants.{Refused}
 use Rattle.rules.specs.declared.answers.Refusal.{Refusal}
 
 -- a limit is 1 to 99,999,999, and from 10,000 up a multiple of 100
@@ -34,7 +32,3 @@ inputs lot room (Quote bid offer) = (Refusal.AwayPrice, bad_away bid || bad_away
 inputs lot room (Enter e) = entry_inputs lot room e
 inputs lot room (Cancel n) = (Refusal.OrderNumber, bad_number n) ∷ (Refusal.ReportRoom, small_report room) ∷ []
 inputs lot room (Reduce n m) = (Refusal.OrderNumber, bad_number n) ∷ (Refusal.Quantity, bad_quantity m) ∷ (Refusal.ReportRoom, small_report room) ∷ []
-
--- the reply of a call that is refused
-abbrev pub refused_with : Refusal → Reply
-refused_with r = record { answer = Refused r; rows = 0 }

@@ -1,36 +1,37 @@
 //! Refusals 1 to 7: what the caller gave, whatever the book holds.
 ghost use Rattle.std.specs.Prelude.{◌≡◌, ◌<◌};
-ghost use Rattle.rules.specs.Refusals.{first, bad_number, bad_participant, bad_quantity, bad_price, bad_display, small_report, bad_away};
+ghost use Rattle.rules.specs.Refusals.{first, passed, bad_number, bad_participant, bad_quantity, bad_price, bad_display, small_report, bad_away};
 ghost use Rattle.calls.specs.Inputs.{inputs, entry_inputs, bad_limit};
 
 use rules::{Call, Kind, Order, Refusal};
 
+// Each limit is a rule of its own: one function over two bounds would hide which.
 /// An order number is 1 to 999,999.
 fn bad_number(number: u32) -> bool
     ensures { result ≡ bad_number number }
 {
-    !(1 <= number && number <= 999_999)
+    !(1..=999_999).contains(&number)
 }
 
 /// A participant is 1 to 24.
 fn bad_participant(participant: u8) -> bool
     ensures { result ≡ bad_participant participant }
 {
-    !(1 <= participant && participant <= 24)
+    !(1..=24).contains(&participant)
 }
 
 /// A quantity is 1 to 500,000.
 fn bad_quantity(quantity: u32) -> bool
     ensures { result ≡ bad_quantity quantity }
 {
-    !(1 <= quantity && quantity <= 500_000)
+    !(1..=500_000).contains(&quantity)
 }
 
 /// A limit is 1 to 99,999,999, and from 10,000 up a multiple of 100.
 fn bad_limit(price: u32) -> bool
     ensures { result ≡ bad_limit price }
 {
-    !(1 <= price && price <= 99_999_999) || (10_000 <= price && price % 100 != 0)
+    !(1..=99_999_999).contains(&price) || (10_000 <= price && price % 100 != 0)
 }
 
 /// A price is 0 for a market order, and a limit for any other.
@@ -49,7 +50,7 @@ fn bad_display(lot: u32, kind: Kind, quantity: u32, display: u32) -> bool
     ensures { result ≡ bad_display lot kind quantity display }
 {
     match kind {
-        Kind::Reserve => !(1 <= display && display <= quantity && display % lot == 0),
+        Kind::Reserve => !((1..=quantity).contains(&display) && display % lot == 0),
         _ => display != 0,
     }
 }
@@ -68,69 +69,37 @@ fn bad_away(price: u32) -> bool
     99_999_999 < price
 }
 
-/// The first refusal of an order for what it says, or for the room of the report.
-fn entry_refusal(lot: u32, room: usize, order: Order) -> Option<Refusal>
+/// Refused for what the order says, or for the room of the report.
+fn check_order(lot: u32, room: usize, order: Order) -> Result<(), Refusal>
     requires { 0 < lot }
-    ensures { result ≡ first (entry_inputs lot room order) }
+    ensures { result ≡ passed (first (entry_inputs lot room order)) }
 {
-    if bad_number(order.number) {
-        Some(Refusal::OrderNumber)
-    } else if bad_participant(order.participant) {
-        Some(Refusal::Participant)
-    } else if bad_quantity(order.quantity) {
-        Some(Refusal::Quantity)
-    } else if bad_price(order.kind, order.price) {
-        Some(Refusal::Price)
-    } else if bad_display(lot, order.kind, order.quantity, order.display) {
-        Some(Refusal::DisplayQuantity)
-    } else if small_report(room) {
-        Some(Refusal::ReportRoom)
-    } else {
-        None
-    }
+    Refusal::OrderNumber.when(bad_number(order.number))?;
+    Refusal::Participant.when(bad_participant(order.participant))?;
+    Refusal::Quantity.when(bad_quantity(order.quantity))?;
+    Refusal::Price.when(bad_price(order.kind, order.price))?;
+    Refusal::DisplayQuantity.when(bad_display(lot, order.kind, order.quantity, order.display))?;
+    Refusal::ReportRoom.when(small_report(room))
 }
 
-/// The first refusal of a call for what the caller gave.
-pub(crate) fn input_refusal(lot: u32, room: usize, call: Call) -> Option<Refusal>
+/// Refused for what the caller gave.
+pub(crate) fn check_inputs(lot: u32, room: usize, call: Call) -> Result<(), Refusal>
     requires { 0 < lot }
-    ensures { result ≡ first (inputs lot room call) }
+    ensures { result ≡ passed (first (inputs lot room call)) }
 {
     match call {
-        Call::Open | Call::Halt | Call::Resume => None,
-        Call::Close => {
-            if small_report(room) {
-                Some(Refusal::ReportRoom)
-            } else {
-                None
-            }
-        }
-        Call::Quote { bid, offer } => {
-            if bad_away(bid) || bad_away(offer) {
-                Some(Refusal::AwayPrice)
-            } else {
-                None
-            }
-        }
-        Call::Enter(order) => entry_refusal(lot, room, order),
+        Call::Open | Call::Halt | Call::Resume => Ok(()),
+        Call::Close => Refusal::ReportRoom.when(small_report(room)),
+        Call::Quote { bid, offer } => Refusal::AwayPrice.when(bad_away(bid) || bad_away(offer)),
+        Call::Enter(order) => check_order(lot, room, order),
         Call::Cancel { order } => {
-            if bad_number(order) {
-                Some(Refusal::OrderNumber)
-            } else if small_report(room) {
-                Some(Refusal::ReportRoom)
-            } else {
-                None
-            }
+            Refusal::OrderNumber.when(bad_number(order))?;
+            Refusal::ReportRoom.when(small_report(room))
         }
         Call::Reduce { order, quantity } => {
-            if bad_number(order) {
-                Some(Refusal::OrderNumber)
-            } else if bad_quantity(quantity) {
-                Some(Refusal::Quantity)
-            } else if small_report(room) {
-                Some(Refusal::ReportRoom)
-            } else {
-                None
-            }
+            Refusal::OrderNumber.when(bad_number(order))?;
+            Refusal::Quantity.when(bad_quantity(quantity))?;
+            Refusal::ReportRoom.when(small_report(room))
         }
     }
 }

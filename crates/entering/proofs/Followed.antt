@@ -1,11 +1,10 @@
 -- An enter in memory has done what its rule says. Assumes nothing.
-use Rattle.std.proofs.Common.{◌≡◌, ℕ, ◌+◌, ◌≤◌, List, [], length, Some, None, sym, ap, ◌∙◌, subst, arith}
+use Rattle.std.proofs.Common.{◌≡◌, ℕ, ◌+◌, ◌≤◌, List, [], length, Some, None, Err, Result, sym, ap, ◌∙◌, subst, arith}
 use Rattle.std.proofs.lemmas.List.{length-append}
 use Rattle.allocation.specs.Dealings.{Deal}
 use Rattle.rules.specs.declared.orders.Order.{Order}
 use Rattle.rules.specs.declared.calls.Call.TheVariants.{Enter}
-use Rattle.rules.specs.declared.answers.Answer.{Answer}
-use Rattle.rules.specs.declared.answers.Answer.TheVariants.{Refused}
+use Rattle.rules.specs.Codes.{Answer}
 use Rattle.rules.specs.declared.answers.Refusal.{Refusal}
 use Rattle.rules.specs.declared.answers.Row.{Row}
 use Rattle.rules.specs.Books.{Ranking, Book}
@@ -19,7 +18,7 @@ use Rattle.orders.specs.Rows.{rows_of}
 use Rattle.memory.specs.declared.states.State.{State}
 use Rattle.memory.specs.declared.replies.Reply.{Reply}
 use Rattle.memory.specs.States.{book_of, Tallied}
-use Rattle.memory.specs.Following.{Follows, replied}
+use Rattle.memory.specs.Following.{Follows, reply_with, replied}
 use Rattle.entering.specs.Refused.{Presentable, late_refusals}
 use Rattle.entering.specs.Remainders.{ended, Ready}
 use Rattle.entering.proofs.Ruled.{refused, accepted, is_open}
@@ -33,20 +32,20 @@ pub ended_at : (rank : Ranking) (e f : Order) (n m : ℕ) (b c : Book) → f ≡
 ended_at rank e f n m b c eo en eb = ap (λ f. ended rank f m c) eo ∙ ap (λ m. ended rank e m c) en ∙ ap (ended rank e n) eb
 
 module _ (rank : Ranking) (deal : Deal) (e : Order) (before after : State) (report : List Row) where
-  pub refused_follows : (r : Refusal) → Presentable (book_of before) (length report) e → first (late_refusals (book_of before) e) ≡ Some r → Tallied (rows_of before.orders) (book_of before)
-      → Follows rank deal (Enter e) before report before report (record { answer = Refused r; rows = 0 })
-  refused_follows r p h t =
-      let o : rule rank deal (book_of before) (length report) (Enter e) ≡ record { answer = Refused r; rows = []; book = book_of before } = refused rank deal (book_of before) (length report) e r p h in
+  pub refused_follows : (r : Refusal) (q : Result Reply Refusal) → q ≡ Err r → Presentable (book_of before) (length report) e → first (late_refusals (book_of before) e) ≡ Some r → Tallied (rows_of before.orders) (book_of before)
+      → Follows rank deal (Enter e) before report before report q
+  refused_follows r q said p h t =
+      let o : rule rank deal (book_of before) (length report) (Enter e) ≡ record { answer = Err r; rows = []; book = book_of before } = refused rank deal (book_of before) (length report) e r p h in
       record {
-        reply = sym (ap replied o);
+        reply = said ∙ sym (ap replied o);
         report = sym (ap (λ (x : Outcome). written report 0 x.rows) o ∙ written_none report 0);
         book = sym (ap (λ (x : Outcome). x.book) o);
         tallied = t;
       }
 
-  pub accepted_follows : (answer : Answer) (rows : ℕ) (middle end : List Row) (r : Reply) → (let b : Book = book_of before in let t : Traded Book = trade rank deal e (arrived e b) in let o : Outcome = ended rank e t.left t.rest in
+  pub accepted_follows : (answer : Answer) (rows : ℕ) (middle end : List Row) (r : Result Reply Refusal) → (let b : Book = book_of before in let t : Traded Book = trade rank deal e (arrived e b) in let o : Outcome = ended rank e t.left t.rest in
       Presentable b (length report) e → first (late_refusals b e) ≡ None → length t.rows ≤ length report → middle ≡ written report 0 t.rows → end ≡ written middle (length t.rows) o.rows
-      → r ≡ record { answer = answer; rows = rows } → answer ≡ o.answer → rows ≡ length t.rows + length o.rows → book_of after ≡ tidy o.book → Tallied (rows_of after.orders) (book_of after)
+      → r ≡ reply_with rows answer → answer ≡ o.answer → rows ≡ length t.rows + length o.rows → book_of after ≡ tidy o.book → Tallied (rows_of after.orders) (book_of after)
       → Follows rank deal (Enter e) before report after end r)
   accepted_follows answer rows middle end r p h room one two made same many now tallied =
       let b : Book = book_of before in
@@ -60,8 +59,8 @@ module _ (rank : Ranking) (deal : Deal) (e : Order) (before after : State) (repo
       record {
         reply =
             made
-            ∙ ap (λ a. record { answer = a; rows = rows }) said
-            ∙ ap (λ n. record { answer = x.answer; rows = n }) count
+            ∙ ap (reply_with rows) said
+            ∙ ap (λ n. reply_with n x.answer) count
             ∙ sym (ap replied is);
         report =
             two

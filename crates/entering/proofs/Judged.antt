@@ -1,9 +1,9 @@
 -- Whether one more order can rest, and whether a remainder is given back. Assumes nothing.
-use Rattle.std.proofs.Common.{◌≡◌, ℕ, true, false, not, ◌&&◌, ◌||◌, eqb, leb, List, map, length, sym, ap, ◌∙◌}
+use Rattle.std.proofs.Common.{◌≡◌, ℕ, Bool, cond, Option, Some, None, MatchOption, subst, true, false, not, ◌&&◌, ◌||◌, eqb, leb, List, map, length, sym, ap, ◌∙◌}
 use Rattle.std.proofs.lemmas.List.{length-map}
-use Rattle.std.proofs.lemmas.Bool.{eq-eqb, ne_eqb}
 use Rattle.rules.specs.declared.orders.Order.{Order}
 use Rattle.rules.specs.Books.{Ranking, Book, good, other, away}
+use Rattle.rules.specs.Marks.{quoted}
 use Rattle.rules.specs.Refusals.{rests}
 use Rattle.rules.specs.Entering.{not_placed}
 use Rattle.orders.specs.declared.tables.Resting.{Resting}
@@ -23,8 +23,10 @@ module _ (rank : Ranking) (b : Book) (e : Order) where
   unfolding not_placed
   by_quote h = sym (ap (λ r. not r || (not (eqb (away (other e.side) b) 0) && good rank (other e.side) (away (other e.side) b) e.price)) h)
 
-  pub quoted_by : rests e.kind ≡ true → (away (other e.side) b ≡ 0 → ⊥) → good rank (other e.side) (away (other e.side) b) e.price ≡ not_placed rank b e
-  quoted_by r some = sym (ap (λ t. not t && good rank (other e.side) (away (other e.side) b) e.price) (ne_eqb (away (other e.side) b) 0 some)) ∙ by_quote r
-
-  pub not_quoted : rests e.kind ≡ true → away (other e.side) b ≡ 0 → false ≡ not_placed rank b e
-  not_quoted r none = sym (ap (λ t. not t && good rank (other e.side) (away (other e.side) b) e.price) (eq-eqb (away (other e.side) b) 0 none)) ∙ by_quote r
+-- what is asked of an away price, where there is one
+pub where_quoted : (o : Option ℕ) (q : ℕ) (r : Bool) (p : ℕ → Bool) (B : ℕ → Type 0) → o ≡ quoted q → MatchOption o (r ≡ false) B → ((x : ℕ) → B x → r ≡ p x) → r ≡ (not (eqb q 0) && p q)
+where_quoted o q r p B is m f = go (eqb q 0) (subst (λ x. MatchOption x (r ≡ false) B) is m)
+  where
+    go : (t : Bool) → MatchOption (cond t None (Some q)) (r ≡ false) B → r ≡ (not t && p q)
+    go true h = h
+    go false h = f q h

@@ -1,5 +1,5 @@
 -- The rule of an enter. Assumes nothing.
-use Rattle.std.proofs.Common.{◌≡◌, ℕ, ◌≤◌, Bool, false, cond, List, [], ◌∷◌, ◌++◌, Some, None, sym, refl, ap, ◌∙◌}
+use Rattle.std.proofs.Common.{◌≡◌, ℕ, ◌≤◌, Bool, false, cond, List, [], ◌∷◌, ◌++◌, Some, None, sym, refl, ap, ◌∙◌, Err}
 use mathlib.Core.Bool.{false≢true}
 use Rattle.std.specs.List.{AllByRecursion}
 use Rattle.std.proofs.lemmas.Bool.{leb-false, ltb-false}
@@ -7,7 +7,6 @@ use Rattle.allocation.specs.Dealings.{Deal}
 use Rattle.rules.specs.declared.orders.Order.{Order}
 use Rattle.rules.specs.declared.phases.Phase.{Phase}
 use Rattle.rules.specs.declared.calls.Call.TheVariants.{Enter}
-use Rattle.rules.specs.declared.answers.Answer.TheVariants.{Refused}
 use Rattle.rules.specs.declared.answers.Refusal.{Refusal}
 use Rattle.rules.specs.Books.{Ranking, Book}
 use Rattle.rules.specs.Refusals.{first, refusals, none, phase_after, next_phase, bad_number, bad_participant, bad_quantity, bad_price, bad_display, small_report, out_of_phase}
@@ -18,9 +17,9 @@ use Rattle.rules.proofs.Remainder.{EntryAllowed}
 use Rattle.entering.specs.Refused.{Presentable, late_refusals}
 
 -- refusals whose tests fail are passed over
-passed : (xs ys : List (Refusal × Bool)) → AllByRecursion (λ (x : Refusal × Bool). x.1 ≡ false) xs → first (xs ++ ys) ≡ first ys
-passed [] ys h = refl
-passed (x ∷ xs) ys h = ap (λ t. cond t (Some x.0) (first (xs ++ ys))) h.0 ∙ passed xs ys h.1
+passed_over : (xs ys : List (Refusal × Bool)) → AllByRecursion (λ (x : Refusal × Bool). x.1 ≡ false) xs → first (xs ++ ys) ≡ first ys
+passed_over [] ys h = refl
+passed_over (x ∷ xs) ys h = ap (λ t. cond t (Some x.0) (first (xs ++ ys))) h.0 ∙ passed_over xs ys h.1
 
 abbrev early_refusals : Book → ℕ → Order → List (Refusal × Bool)
 early_refusals b room e =
@@ -36,9 +35,9 @@ early_refusals b room e =
 -- for a presentable order the late refusals decide
 pub late_decide : (b : Book) (room : ℕ) (e : Order) → Presentable b room e → first (refusals b room (Enter e)) ≡ first (late_refusals b e)
 unfolding refusals
-late_decide b room e p = passed (early_refusals b room e) (late_refusals b e) (p.number, (p.participant, (p.quantity, (p.price, (p.display, (p.report, (p.phase, tt)))))))
+late_decide b room e p = passed_over (early_refusals b room e) (late_refusals b e) (p.number, (p.participant, (p.quantity, (p.price, (p.display, (p.report, (p.phase, tt)))))))
 
-pub refused : (rank : Ranking) (deal : Deal) (b : Book) (room : ℕ) (e : Order) (r : Refusal) → Presentable b room e → first (late_refusals b e) ≡ Some r → rule rank deal b room (Enter e) ≡ record { answer = Refused r; rows = []; book = b }
+pub refused : (rank : Ranking) (deal : Deal) (b : Book) (room : ℕ) (e : Order) (r : Refusal) → Presentable b room e → first (late_refusals b e) ≡ Some r → rule rank deal b room (Enter e) ≡ record { answer = Err r; rows = []; book = b }
 unfolding rule
 refused rank deal b room e r p h = ap (λ o. ruled o rank deal b (Enter e)) (late_decide b room e p ∙ h)
 

@@ -2,7 +2,6 @@
 #![tactic(auto)]
 
 mod entering;
-mod kinds;
 mod refusing;
 mod stages;
 

@@ -1,20 +1,18 @@
 //! The three states of an order that enters. Each is made from the one before, and none can be let go or used twice.
-ghost use Rattle.std.specs.Prelude.{◌≡◌, ◌+◌, ◌<◌, ◌≤◌, length};
+ghost use Rattle.std.specs.Prelude.{◌≡◌, ◌+◌, ◌<◌, ◌≤◌, length, Ok};
 ghost use Rattle.rules.specs.Books.{ranked_by};
 ghost use Rattle.rules.specs.Entering.{trade, arrived, not_placed};
 ghost use Rattle.trading.specs.Written.{written};
 ghost use Rattle.orders.specs.Rows.{rows_of};
 ghost use Rattle.memory.specs.States.{book_of, Tallied, Stands};
-ghost use Rattle.rules.specs.declared.answers.Answer.TheVariants.{Accepted};
 ghost use Rattle.entering.specs.Remainders.{ended, Ready};
 
-use crate::kinds::{can_rest, opposite};
 use allocation::{Dealing, Ranking};
 use levels::at_least;
 use matching::match_order;
 use memory::{Reply, State};
 use placing::place_order;
-use rules::{Answer, Order, Row};
+use rules::{Accepted, Order, Row};
 
 /// An order that has come in, and has not traded.
 pub struct Arrived {
@@ -32,12 +30,8 @@ pub struct Traded {
 
 /// An order of which nothing is left to place.
 pub struct Placed {
-    /// The shares traded.
-    traded: u32,
-    /// The shares given back.
-    given_back: u32,
-    /// The rows written.
-    rows: usize,
+    /// The reply to its enter.
+    reply: Reply,
 }
 
 /// An order comes in.
@@ -49,11 +43,13 @@ pub(crate) fn arrive(order: Order) -> Arrived
 
 /// Whether what is left of an order is given back: it cannot rest, or its limit reaches the opposite away price.
 fn is_given_back<K: Ranking>(state: &State, order: Order) -> bool
-    ensures { result ≡ not_placed (ranked_by K.Ranking.initial K.Ranking.good) (book_of state.now) order }
+    ensures { result ≡ not_placed (ranked_by K.initial K.good) (book_of state.now) order }
 {
-    let side = opposite(order.side);
-    let quote = state.away(side);
-    !can_rest(order.kind) || quote != 0 && at_least::<K>(side, quote, order.price)
+    let side = order.side.opposite();
+    !order.kind.can_rest()
+        || state
+            .away(side)
+            .is_some_and(|quote| at_least::<K>(side, quote, order.price))
 }
 
 impl Arrived {
@@ -64,13 +60,13 @@ impl Arrived {
         dealing: &D,
         report: &mut [Row],
     ) -> Traded
-        requires stands { Stands (ranked_by K.Ranking.initial K.Ranking.good) state.old }
+        requires stands { Stands (ranked_by K.initial K.good) state.old }
         requires room { 400 ≤ length report.old }
         ensures order { result.order ≡ self.order }
-        ensures book { book_of state.new ≡ (trade (ranked_by K.Ranking.initial K.Ranking.good) D.Dealing.meaning self.order (arrived self.order (book_of state.old))).rest }
-        ensures left { result.left ≡ (trade (ranked_by K.Ranking.initial K.Ranking.good) D.Dealing.meaning self.order (arrived self.order (book_of state.old))).left }
-        ensures report { report.new ≡ written report.old 0 (trade (ranked_by K.Ranking.initial K.Ranking.good) D.Dealing.meaning self.order (arrived self.order (book_of state.old))).rows }
-        ensures rows { result.rows ≡ length (trade (ranked_by K.Ranking.initial K.Ranking.good) D.Dealing.meaning self.order (arrived self.order (book_of state.old))).rows }
+        ensures book { book_of state.new ≡ (trade (ranked_by K.initial K.good) D.meaning self.order (arrived self.order (book_of state.old))).rest }
+        ensures left { result.left ≡ (trade (ranked_by K.initial K.good) D.meaning self.order (arrived self.order (book_of state.old))).left }
+        ensures report { report.new ≡ written report.old 0 (trade (ranked_by K.initial K.good) D.meaning self.order (arrived self.order (book_of state.old))).rows }
+        ensures rows { result.rows ≡ length (trade (ranked_by K.initial K.good) D.meaning self.order (arrived self.order (book_of state.old))).rows }
         ensures tallied { Tallied (rows_of state.new.orders) (book_of state.new) }
     {
         let Arrived { order } = self;
@@ -89,54 +85,44 @@ impl Traded {
         requires ready { Ready self.order self.left (book_of state.old) }
         requires tallied { Tallied (rows_of state.old.orders) (book_of state.old) }
         requires room { self.rows < length report.old }
-        ensures book { book_of state.new ≡ (ended (ranked_by K.Ranking.initial K.Ranking.good) self.order self.left (book_of state.old)).book }
-        ensures answer { Accepted result.traded result.given_back ≡ (ended (ranked_by K.Ranking.initial K.Ranking.good) self.order self.left (book_of state.old)).answer }
-        ensures report { report.new ≡ written report.old self.rows (ended (ranked_by K.Ranking.initial K.Ranking.good) self.order self.left (book_of state.old)).rows }
-        ensures rows { result.rows ≡ self.rows + length (ended (ranked_by K.Ranking.initial K.Ranking.good) self.order self.left (book_of state.old)).rows }
+        ensures book { book_of state.new ≡ (ended (ranked_by K.initial K.good) self.order self.left (book_of state.old)).book }
+        ensures answer { Ok result.reply.accepted ≡ (ended (ranked_by K.initial K.good) self.order self.left (book_of state.old)).answer }
+        ensures report { report.new ≡ written report.old self.rows (ended (ranked_by K.initial K.good) self.order self.left (book_of state.old)).rows }
+        ensures rows { result.reply.rows ≡ self.rows + length (ended (ranked_by K.initial K.good) self.order self.left (book_of state.old)).rows }
         ensures tallied { Tallied (rows_of state.new.orders) (book_of state.new) }
     {
         let Traded { order, left, rows } = self;
         let traded = order.quantity - left;
+        let given_back = 0;
+        let accepted = Accepted { traded, given_back };
+        let reply = Reply { accepted, rows };
         if left == 0 {
-            return Placed {
-                traded,
-                given_back: 0,
-                rows,
-            };
+            return Placed { reply };
         }
         if is_given_back::<K>(state, order) {
             report[rows] = Row::GivenBack {
                 order: order.number,
                 quantity: left,
             };
-            return Placed {
-                traded,
-                given_back: left,
+            let given_back = left;
+            let accepted = Accepted { traded, given_back };
+            let reply = Reply {
+                accepted,
                 rows: rows + 1,
             };
+            return Placed { reply };
         }
         place_order::<K>(state, order, left);
-        Placed {
-            traded,
-            given_back: 0,
-            rows,
-        }
+        Placed { reply }
     }
 }
 
 impl Placed {
     /// The reply to the enter.
     pub fn reply(self) -> Reply
-        ensures { result ≡ record { answer = Accepted self.traded self.given_back; rows = self.rows } }
+        ensures { result ≡ self.reply }
     {
-        let Placed {
-            traded,
-            given_back,
-            rows,
-        } = self;
-        Reply {
-            answer: Answer::Accepted { traded, given_back },
-            rows,
-        }
+        let Placed { reply } = self;
+        reply
     }
 }

@@ -1,17 +1,17 @@
 -- Every order is given back. Assumes nothing.
-use Rattle.std.proofs.Common.{◌≡◌, ℕ, ◌+◌, ◌*◌, ◌<◌, ◌≤◌, false, ltb, List, [], ◌∷◌, map, length, get_or, drop, sym, refl, ap, ◌∙◌, arith}
+use Rattle.std.proofs.Common.{◌≡◌, ℕ, ◌+◌, ◌*◌, ◌<◌, ◌≤◌, false, ltb, List, [], ◌∷◌, map, length, get_or, drop, sym, refl, ap, ◌∙◌, arith, Ok, Result}
 use Rattle.std.specs.List.{AllByRecursion}
 use Rattle.std.proofs.lemmas.List.{at_drop_more}
 use Rattle.std.proofs.lemmas.Bool.{le-ltb}
 use Rattle.rules.specs.declared.orders.Order.{Order}
 use Rattle.rules.specs.declared.phases.Phase.TheVariants.{Shut}
-use Rattle.rules.specs.declared.answers.Answer.TheVariants.{Accepted}
 use Rattle.rules.specs.declared.answers.Row.TheVariants.{GivenBack}
 use Rattle.rules.specs.Lists.{sum_of}
 use Rattle.rules.specs.Books.{Level, Book, with_sides, with_phase, with_orders}
 use Rattle.rules.specs.Quantities.{resting}
 use Rattle.rules.specs.Rules.{tidy, all_back, row_given_back}
 use Rattle.orders.specs.declared.tables.Resting.{Resting}
+use Rattle.rules.specs.declared.answers.Refusal.{Refusal}
 use Rattle.memory.specs.declared.replies.Reply.{Reply}
 use Rattle.memory.specs.States.{Tallied}
 use Rattle.giving_back.specs.Backs.{backs}
@@ -47,5 +47,5 @@ shut b os bs ss o x y =
     each (e ∷ es) = (le-ltb 0 0 (omega arith), each es)
 
 -- one reply
-pub accepted : (t t' n n' : ℕ) → t ≡ t' → n ≡ n' → (let x : Reply = record { answer = Accepted 0 t; rows = n } in let y : Reply = record { answer = Accepted 0 t'; rows = n' } in x ≡ y)
-accepted t t' n n' e f = ap {B = Reply} (λ t. record { answer = Accepted 0 t; rows = n }) e ∙ ap {B = Reply} (λ n. record { answer = Accepted 0 t'; rows = n }) f
+pub same_reply : (t t' n n' : ℕ) → t ≡ t' → n ≡ n' → (let x : Result Reply Refusal = Ok (record { accepted = record { traded = 0; given_back = t }; rows = n }) in let y : Result Reply Refusal = Ok (record { accepted = record { traded = 0; given_back = t' }; rows = n' }) in x ≡ y)
+same_reply t t' n n' e f = ap {B = Result Reply Refusal} (λ t. Ok (record { accepted = record { traded = 0; given_back = t }; rows = n })) e ∙ ap {B = Result Reply Refusal} (λ n. Ok (record { accepted = record { traded = 0; given_back = t' }; rows = n })) f

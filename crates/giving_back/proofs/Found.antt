@@ -1,8 +1,8 @@
 -- Where the orders of a sound book rest. Assumes nothing.
-use Rattle.std.proofs.Common.{◌≡◌, ℕ, ◌+◌, ◌<◌, ◌≤◌, true, false, ◌&&◌, eqb, List, [], ◌∷◌, length, get_or, take, drop, sym, refl, ap, ◌∙◌, subst, arith}
+use Rattle.std.proofs.Common.{◌≡◌, ℕ, ◌+◌, ◌<◌, true, false, ◌&&◌, eqb, None, Some, List, [], ◌∷◌, length, take, drop, sym, refl, ap, ◌∙◌, subst, arith, Option}
 use mathlib.Core.Bool.{false≢true}
-use Rattle.std.specs.List.{AllByRecursion}
-use Rattle.std.proofs.lemmas.List.{take_all}
+use Rattle.std.specs.Option.{IsSome}
+use Rattle.std.specs.List.{AllByRecursion, position}
 use Rattle.std.proofs.lemmas.Bool.{and_parts, and_right, ne_eqb}
 use Rattle.std.proofs.ByRecursion.{All-weaker, All-take, All-drop}
 use Rattle.allocation.specs.Rankings.{TotalOrder}
@@ -11,9 +11,10 @@ use Rattle.rules.specs.declared.orders.Side.TheVariants.{Buy, Sell}
 use Rattle.rules.specs.declared.orders.Order.{Order}
 use Rattle.rules.specs.declared.orders.Part.{Part}
 use Rattle.rules.specs.Lists.{Distinct}
-use Rattle.rules.specs.Books.{Level, Ranking, Book, same_side, side, other}
+use Rattle.rules.specs.Books.{Level, Ranking, Book, nothing_at, same_side, side, other}
 use Rattle.rules.specs.Quantities.{of_side, resting}
 use Rattle.rules.specs.Invariants.{SoundLevel, SoundSide, Orderly, listed, prices, SoundBook}
+use Rattle.arrays.proofs.Found.{FirstAt, first_at, nowhere}
 use Rattle.rules.proofs.Members.{all_both}
 use Rattle.rules.proofs.Listing.{Unique, none_of}
 use Rattle.rules.proofs.Numbering.{resting_listed}
@@ -73,21 +74,29 @@ module _ (b : Book) (e : Order) (u : Unique b.orders e) where
   away_from (l ∷ ls) h a = (without e.side l h.0 (and_right (same_side e.side e.side) (eqb e.price l.price) (ne_eqb e.price l.price (λ z. a.0 (sym z)))), away_from ls h.1 a.1)
 
   -- the level at its price is the one where it rests
-  pub found_at : (rank : Ranking) (O : TotalOrder rank.good) → SoundBook rank b → 0 < resting e.number b → (i : ℕ) (ls : List Level) (d : Level) → ls ≡ side e.side b → i ≤ length ls
-      → (i < length ls → (get_or ls i d).price ≡ e.price) → AllByRecursion (λ l. (l.price ≡ e.price → ⊥)) (take i ls) → RestsAt b e i
-  found_at rank O s some i ls d is le found before =
-      let t : Side = e.side in
-      let good : AllByRecursion (λ l. SoundLevel b.lot l × Orderly b.orders t l) ls = subst (λ (l : List Level). AllByRecursion (λ l. SoundLevel b.lot l × Orderly b.orders t l) l) (sym is) (both rank t s) in
-      let once : Distinct (prices ls) = subst (λ (l : List Level). Distinct (prices l)) (sym is) (sorted_once rank O t (prices (side t b)) (sound_on rank b t s).sorted) in
-      let elsewhere = other_side rank s in
-      let past : length ls ≤ i → ⊥ = λ over.
-      (let none : of_side e.number ls ≡ 0 = none_on b.lot e.number ls (away_from ls good (subst (λ (l : List Level). AllByRecursion (λ l. (l.price ≡ e.price → ⊥)) l) (take_all i ls over) before)) in
-      let here : of_side e.number (side t b) ≡ 0 = ap (of_side e.number) (sym is) ∙ none in
-      omega (arith, rest_on e.number b t, none_on b.lot e.number (side (other t) b) elsewhere)) in
-      let lt : i < length ls = within i (length ls) past in
-      let after : AllByRecursion (λ l. (l.price ≡ e.price → ⊥)) (drop (i + 1) ls) = subst (λ v. AllByRecursion (λ (l : Level). (l.price ≡ v → ⊥)) (drop (i + 1) ls)) (found lt) (apart_after (λ l. l.price) ls i d once lt) in
-      let alone : Alone b.lot e.number i ls = record { before = away_from (take i ls) (All-take _ i ls good) before; after = away_from (drop (i + 1) ls) (All-drop _ (i + 1) ls good) after } in
-      record { place = subst (λ (l : List Level). i < length l) is lt; alone = subst (λ (l : List Level). Alone b.lot e.number i l) is alone; elsewhere = elsewhere }
-    where
-      within : (i n : ℕ) → (n ≤ i → ⊥) → i < n
-      within i n never = grind arith
+  module _ (rank : Ranking) (O : TotalOrder rank.good) (s : SoundBook rank b) (some : 0 < resting e.number b) (ls : List Level) (is : ls ≡ side e.side b) where
+    good : AllByRecursion (λ l. SoundLevel b.lot l × Orderly b.orders e.side l) ls
+    good = subst (λ (l : List Level). AllByRecursion (λ l. SoundLevel b.lot l × Orderly b.orders e.side l) l) (sym is) (both rank e.side s)
+
+    nowhere_else : position (λ l. eqb l.price e.price) ls ≡ None → ⊥
+    nowhere_else none =
+        let nothing : of_side e.number ls ≡ 0 = none_on b.lot e.number ls (away_from ls good (nowhere (λ l. l.price) e.price ls none)) in
+        let here : of_side e.number (side e.side b) ≡ 0 = ap (of_side e.number) (sym is) ∙ nothing in
+        omega (arith, rest_on e.number b e.side, none_on b.lot e.number (side (other e.side) b) (other_side rank s))
+
+    -- some level of its side has its price
+    pub found_somewhere : IsSome (position (λ l. eqb l.price e.price) ls)
+    found_somewhere = there (position (λ l. eqb l.price e.price) ls) nowhere_else
+      where
+        there : (o : Option ℕ) → (o ≡ None → ⊥) → IsSome o
+        there (Some i) h = refl
+        there None h = absurd (h refl)
+
+    pub found_at : (i : ℕ) → position (λ l. eqb l.price e.price) ls ≡ Some i → RestsAt b e i
+    found_at i e' =
+        let at : FirstAt (λ l. l.price) e.price ls i = first_at (λ l. l.price) e.price ls i e' in
+        let once : Distinct (prices ls) = subst (λ (l : List Level). Distinct (prices l)) (sym is) (sorted_once rank O e.side (prices (side e.side b)) (sound_on rank b e.side s).sorted) in
+        let d : Level = nothing_at 0 in
+        let after : AllByRecursion (λ l. (l.price ≡ e.price → ⊥)) (drop (i + 1) ls) = subst (λ v. AllByRecursion (λ (l : Level). (l.price ≡ v → ⊥)) (drop (i + 1) ls)) (at.found d) (apart_after (λ l. l.price) ls i d once at.within) in
+        let alone : Alone b.lot e.number i ls = record { before = away_from (take i ls) (All-take _ i ls good) at.others; after = away_from (drop (i + 1) ls) (All-drop _ (i + 1) ls good) after } in
+        record { place = subst (λ (l : List Level). i < length l) is at.within; alone = subst (λ (l : List Level). Alone b.lot e.number i l) is alone; elsewhere = other_side rank s }

@@ -1,11 +1,11 @@
 -- The rules of a cancel, a reduction and a close, where the caller's part is fine. Assumes nothing.
-use Rattle.std.proofs.Common.{◌≡◌, ℕ, ◌<◌, ◌≤◌, false, cond, eqb, leb, [], ◌∷◌, Some, None, sym, refl, ap, ◌∙◌, arith}
+use Rattle.std.proofs.Common.{◌≡◌, ℕ, ◌<◌, ◌≤◌, false, cond, eqb, leb, [], ◌∷◌, Some, None, sym, refl, ap, ◌∙◌, arith, Err}
 use mathlib.Core.Bool.{false≢true}
 use Rattle.std.proofs.lemmas.Bool.{eq-eqb, ne_eqb, le-leb, lt-leb}
 use Rattle.allocation.specs.Dealings.{Deal}
 use Rattle.rules.specs.declared.phases.Phase.{Phase}
 use Rattle.rules.specs.declared.calls.Call.TheVariants.{Close, Cancel, Reduce}
-use Rattle.rules.specs.declared.answers.Answer.TheVariants.{Accepted, Refused}
+use Rattle.rules.specs.Codes.{accepted}
 use Rattle.rules.specs.declared.answers.Refusal.{Refusal}
 use Rattle.rules.specs.declared.answers.Row.TheVariants.{GivenBack}
 use Rattle.rules.specs.Lists.{sum_of}
@@ -18,11 +18,11 @@ use Rattle.rules.specs.Rules.{tidy, effect, ruled, rule, all_back, row_given_bac
 
 -- a refused call
 abbrev pub refused : Refusal → Book → Outcome
-refused x b = record { answer = Refused x; rows = []; book = b }
+refused x b = record { answer = Err x; rows = []; book = b }
 
 -- m shares of the order n are given back
 abbrev pub given_back : ℕ → ℕ → Book → Outcome
-given_back n m b = record { answer = Accepted 0 m; rows = GivenBack n m ∷ []; book = tidy (take_off n m b) }
+given_back n m b = record { answer = accepted 0 m; rows = GivenBack n m ∷ []; book = tidy (take_off n m b) }
 
 -- ## Phases
 
@@ -63,8 +63,8 @@ module _ (rank : Ranking) (deal : Deal) (b : Book) (room n : ℕ) (number : bad_
   unfolding rule effect
   cancel_done some =
       ap (λ x. ruled x rank deal b (Cancel n)) (cancel_first ∙ ap (λ t. cond t (Some Refusal.NoSuchOrder) None) (ne_eqb (resting n b) 0 (λ e. omega arith)))
-      ∙ ap {B = Outcome} (λ p. record { answer = Accepted 0 (resting n b); rows = GivenBack n (resting n b) ∷ []; book = tidy (with_phase p (take_off n (resting n b) b)) }) (cancel_phase b.phase n phase)
-      ∙ ap {B = Outcome} (λ c. record { answer = Accepted 0 (resting n b); rows = GivenBack n (resting n b) ∷ []; book = tidy c }) (same_phase n (resting n b) b)
+      ∙ ap {B = Outcome} (λ p. record { answer = accepted 0 (resting n b); rows = GivenBack n (resting n b) ∷ []; book = tidy (with_phase p (take_off n (resting n b) b)) }) (cancel_phase b.phase n phase)
+      ∙ ap {B = Outcome} (λ c. record { answer = accepted 0 (resting n b); rows = GivenBack n (resting n b) ∷ []; book = tidy c }) (same_phase n (resting n b) b)
 
 -- ## A reduction
 
@@ -88,14 +88,14 @@ module _ (rank : Ranking) (deal : Deal) (b : Book) (room n m : ℕ) (number : ba
   unfolding rule effect
   reduce_done lt =
       ap (λ x. ruled x rank deal b (Reduce n m)) (reduce_some (omega arith) ∙ ap (λ t. cond t (Some Refusal.ReductionTooLarge) None) (lt-leb (resting n b) m lt))
-      ∙ ap {B = Outcome} (λ p. record { answer = Accepted 0 m; rows = GivenBack n m ∷ []; book = tidy (with_phase p (take_off n m b)) }) (reduce_phase b.phase n m phase)
-      ∙ ap {B = Outcome} (λ c. record { answer = Accepted 0 m; rows = GivenBack n m ∷ []; book = tidy c }) (same_phase n m b)
+      ∙ ap {B = Outcome} (λ p. record { answer = accepted 0 m; rows = GivenBack n m ∷ []; book = tidy (with_phase p (take_off n m b)) }) (reduce_phase b.phase n m phase)
+      ∙ ap {B = Outcome} (λ c. record { answer = accepted 0 m; rows = GivenBack n m ∷ []; book = tidy c }) (same_phase n m b)
 
 -- ## A close
 
 -- every order is given back
 abbrev pub all_given_back : Book → Outcome
-all_given_back b = record { answer = Accepted 0 (sum_of row_given_back (all_back b b.orders)); rows = all_back b b.orders; book = tidy (with_phase Phase.Shut (with_sides [] [] b)) }
+all_given_back b = record { answer = accepted 0 (sum_of row_given_back (all_back b b.orders)); rows = all_back b b.orders; book = tidy (with_phase Phase.Shut (with_sides [] [] b)) }
 
 close_first : (b : Book) (room : ℕ) → small_report room ≡ false → out_of_phase b Close ≡ false → first (refusals b room Close) ≡ None
 unfolding refusals
@@ -105,4 +105,4 @@ pub close_done : (rank : Ranking) (deal : Deal) (b : Book) (room : ℕ) → smal
 unfolding rule effect
 close_done rank deal b room report phase =
     ap (λ x. ruled x rank deal b Close) (close_first b room report phase)
-    ∙ ap {B = Outcome} (λ p. record { answer = Accepted 0 (sum_of row_given_back (all_back b b.orders)); rows = all_back b b.orders; book = tidy (with_phase p (with_sides [] [] b)) }) (close_phase b.phase phase)
+    ∙ ap {B = Outcome} (λ p. record { answer = accepted 0 (sum_of row_given_back (all_back b b.orders)); rows = all_back b b.orders; book = tidy (with_phase p (with_sides [] [] b)) }) (close_phase b.phase phase)

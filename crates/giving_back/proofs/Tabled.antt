@@ -1,14 +1,14 @@
 -- What the rows of the order table say of a sound book. Assumes nothing.
-use Rattle.std.proofs.Common.{◌≡◌, ℕ, ◌+◌, ◌<◌, ◌≤◌, false, not, ◌&&◌, leb, List, [], ◌∷◌, map, length, get_or, take, drop, sym, refl, ap, subst, arith}
-use Rattle.std.specs.List.{AllByRecursion}
+use Rattle.std.proofs.Common.{◌≡◌, ℕ, ◌+◌, ◌<◌, ◌≤◌, false, not, ◌&&◌, eqb, leb, None, List, [], ◌∷◌, map, length, get_or, take, drop, sym, refl, ap, subst, arith}
+use Rattle.std.specs.List.{AllByRecursion, position}
 use Rattle.std.proofs.lemmas.Bool.{and_parts, not-false, leb-true}
-use Rattle.std.proofs.lemmas.List.{take_all}
 use Rattle.std.proofs.ByRecursion.{All-weaker, All-get_or, All-map}
 use Rattle.rules.specs.declared.orders.Order.{Order}
 use Rattle.rules.specs.Lists.{Distinct}
 use Rattle.rules.specs.Books.{Ranking, Book}
 use Rattle.rules.specs.Quantities.{resting}
 use Rattle.rules.specs.Invariants.{Admitted, numbers, SoundBook}
+use Rattle.arrays.proofs.Found.{nowhere}
 use Rattle.rules.proofs.Members.{all_both}
 use Rattle.rules.proofs.Listing.{Unique, unique_each}
 use Rattle.rules.proofs.Numbering.{rising_distinct}
@@ -59,10 +59,9 @@ module _ (rank : Ranking) (b : Book) (rows : List Resting) (is : b.orders ≡ ma
       subst (λ x. Known b rows k x) (sym read) there
 
   -- a number that no row has does not rest
-  pub untabled_rests : (n k : ℕ) → length rows ≤ k → AllByRecursion (λ r. (r.order.number ≡ n → ⊥)) (take k rows) → resting n b ≡ 0
-  untabled_rests n k over a =
-      let each : AllByRecursion (λ r. (r.order.number ≡ n → ⊥)) rows = subst (λ (l : List Resting). AllByRecursion (λ r. (r.order.number ≡ n → ⊥)) l) (take_all k rows over) a in
-      unlisted_rests rank b n s (subst (λ (es : List Order). AllByRecursion (λ e. (e.number ≡ n → ⊥)) es) (sym is) (All-map (λ e. (e.number ≡ n → ⊥)) (λ r. r.order) rows each))
+  pub untabled_rests : (n : ℕ) → position (λ r. eqb r.order.number n) rows ≡ None → resting n b ≡ 0
+  untabled_rests n none =
+      unlisted_rests rank b n s (subst (λ (es : List Order). AllByRecursion (λ e. (e.number ≡ n → ⊥)) es) (sym is) (All-map (λ e. (e.number ≡ n → ⊥)) (λ r. r.order) rows (nowhere (λ r. r.order.number) n rows none)))
 
   -- no row tells of more shares than an order can have
   pub rows_small : Tallied rows b → AllByRecursion (λ r. r.quantity ≤ 500000) rows

@@ -3,7 +3,6 @@ ghost use Rattle.std.specs.Prelude.{◌≡◌, ◌<◌, ◌≤◌, [], ◌∷◌
 ghost use Rattle.std.specs.List.{AllByRecursion};
 ghost use Rattle.rules.specs.Lists.{sum_of};
 ghost use Rattle.rules.specs.Rules.{row_given_back};
-ghost use Rattle.rules.specs.declared.answers.Answer.TheVariants.{Accepted, Refused};
 ghost use Rattle.rules.specs.declared.answers.Row.TheVariants.{GivenBack};
 ghost use Rattle.trading.specs.Written.{written};
 ghost use Rattle.orders.specs.Rows.{rows_of};
@@ -11,27 +10,17 @@ ghost use Rattle.giving_back.specs.Backs.{backs};
 
 use memory::Reply;
 use orders::OrderTable;
-use rules::{Answer, Refusal, Row};
-
-/// A refused call writes no row.
-pub(crate) fn refuse(refusal: Refusal) -> Reply
-    ensures { result ≡ record { answer = Refused refusal; rows = 0 } }
-{
-    Reply {
-        answer: Answer::Refused(refusal),
-        rows: 0,
-    }
-}
+use rules::{Accepted, Row};
 
 /// Shares of one order are given back: one row, and the reply.
 pub(crate) fn give_back(order: u32, quantity: u32, report: &mut [Row]) -> Reply
     requires { 0 < length report.old }
-    ensures reply { result ≡ record { answer = Accepted 0 quantity; rows = 1 } }
+    ensures reply { result ≡ record { accepted = record { traded = 0; given_back = quantity }; rows = 1 } }
     ensures rows { report.new ≡ written report.old 0 (GivenBack order quantity ∷ []) }
 {
     report[0] = Row::GivenBack { order, quantity };
     Reply {
-        answer: Answer::Accepted {
+        accepted: Accepted {
             traded: 0,
             given_back: quantity,
         },
@@ -47,8 +36,8 @@ pub(crate) fn give_all_back(orders: &OrderTable, report: &mut [Row]) -> u32
     ensures total { result ≡ sum_of row_given_back (backs (rows_of orders.now)) }
 {
     let mut total = 0;
-    for i in 0..orders.len() {
-        let row = orders.row(i);
+    // By index: after an adapter of `iter_mut` a proof knows only how many rows there are.
+    for (i, row) in orders.rows().iter().enumerate() {
         report[i] = Row::GivenBack {
             order: row.order.number,
             quantity: row.quantity,

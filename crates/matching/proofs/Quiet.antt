@@ -11,6 +11,7 @@ use Rattle.rules.specs.declared.orders.Part.{Part}
 use Rattle.rules.specs.declared.phases.Step.{Step}
 use Rattle.rules.specs.declared.answers.Row.TheVariants.{Trade}
 use Rattle.rules.specs.Lists.{has}
+use Rattle.rules.specs.Marks.{quoted}
 use Rattle.rules.specs.Books.{Queue, Level, Ranking, Book, part, queue, side, away, with_side, good, better, nothing_at}
 use Rattle.rules.specs.Quantities.{of_order}
 use Rattle.rules.specs.Changes.{lowered, on_price}
@@ -140,7 +141,7 @@ unchanged rank b e o h low = go (is_reserve e.kind) refl
     go : (t : Bool) → is_reserve e.kind ≡ t → replenish_order rank b e ≡ b
     go true r =
         let js : List Level = joined rank lot e ls in
-        let mark : Bool = earned rank e.side e.price (min e.display (hidden_of e.number js)) lot (away e.side b) js in
+        let mark : Bool = earned rank e.side e.price (min e.display (hidden_of e.number js)) lot (quoted (away e.side b)) js in
         let one : js ≡ ls = on_price_same rank e.side e.price (join_hidden lot e.number) ls o h (each_same (join_hidden lot e.number) (runs_low lot e.number) (join_none lot e.number) ls (low r)) in
         let two : on_price rank e.side e.price (show_anew lot e mark) ls ≡ ls = on_price_same rank e.side e.price (show_anew lot e mark) ls o h (each_same (show_anew lot e mark) (runs_low lot e.number) (show_none lot e mark) ls (low r)) in
         renewed_is rank b e r ∙ ap (λ xs. with_side e.side xs b) (ap (on_price rank e.side e.price (show_anew lot e mark)) one ∙ two) ∙ same_side_as e.side b

@@ -1,5 +1,5 @@
 -- Reserve orders of a book are replenished one after the other. Assumes nothing.
-use Rattle.std.proofs.Common.{◌≡◌, ℕ, suc, ◌+◌, ◌%◌, ◌<◌, ◌≤◌, min, Bool, true, false, not, ◌&&◌, eqb, leb, List, [], ◌∷◌, map, length, get_or, drop, fold, sym, refl, ap, ◌∙◌, subst, arith}
+use Rattle.std.proofs.Common.{◌≡◌, ℕ, suc, ◌+◌, ◌%◌, ◌<◌, ◌≤◌, min, Bool, true, false, not, ◌&&◌, eqb, leb, List, [], ◌∷◌, map, length, get_or, drop, fold, sym, refl, ap, ◌∙◌, subst, arith, Option}
 use Rattle.std.specs.List.{ContainsAt as Has, AllByRecursion}
 use Rattle.std.proofs.lemmas.List.{at_drop_more, at_drop_all, get_or-map}
 use Rattle.std.proofs.lemmas.Bool.{and_parts, leb-true, not-false}
@@ -8,6 +8,7 @@ use Rattle.allocation.specs.Rankings.{TotalOrder}
 use Rattle.rules.specs.declared.orders.Side.{Side}
 use Rattle.rules.specs.declared.orders.Side.TheVariants.{Buy, Sell}
 use Rattle.rules.specs.declared.orders.Order.{Order}
+use Rattle.rules.specs.Marks.{quoted}
 use Rattle.rules.specs.Books.{Level, Ranking, Book, side, away, with_side}
 use Rattle.rules.specs.Quantities.{of_side, resting}
 use Rattle.rules.specs.Changes.{on_price}
@@ -42,12 +43,12 @@ order_at rs i r lt is = ap (λ r. r.order) is ∙ sym (get_or-map (λ r. r.order
 renewed_side : (rank : Ranking) (s : Side) (v : ℕ) (g : Level → Level) (f : Bool → Level → Level) (n : List Level → ℕ) (b : Book)
     → (let js : List Level = on_price rank s v g (side s b) in
     let c : Book = with_side s js b in
-    with_side s (on_price rank s v (f (earns_mark rank s v (n (side s c)) c)) (side s c)) c ≡ with_side s (on_price rank s v (f (earned rank s v (n js) b.lot (away s b) js)) js) b)
+    with_side s (on_price rank s v (f (earns_mark rank s v (n (side s c)) c)) (side s c)) c ≡ with_side s (on_price rank s v (f (earned rank s v (n js) b.lot (quoted (away s b)) js)) js) b)
 unfolding earns_mark
 renewed_side rank Buy v g f n b = refl
 renewed_side rank Sell v g f n b = refl
 
-pub renewed_is : (rank : Ranking) (b : Book) (e : Order) → is_reserve e.kind ≡ true → replenish_order rank b e ≡ with_side e.side (replenished rank b.lot (away e.side b) e (side e.side b)) b
+pub renewed_is : (rank : Ranking) (b : Book) (e : Order) → is_reserve e.kind ≡ true → replenish_order rank b e ≡ with_side e.side (replenished rank b.lot (quoted (away e.side b)) e (side e.side b)) b
 unfolding replenish_order
 renewed_is rank b e r =
     rw r (renewed_side rank e.side e.price (join_hidden b.lot e.number) (show_anew b.lot e) (λ js. min e.display (hidden_of e.number js)) b)
@@ -118,7 +119,7 @@ module _ (rank : Ranking) (O : TotalOrder rank.good) (lot : ℕ) (es : List Orde
   longer Buy ls b most p q h = (omega (arith, p, h), omega (arith, q))
   longer Sell ls b most p q h = (omega (arith, p), omega (arith, q, h))
 
-  one_longer : (away : ℕ) (e : Order) (k : ℕ) (ls : List Level) → length (replenished rank k away e ls) ≤ length ls + 1
+  one_longer : (away : Option ℕ) (e : Order) (k : ℕ) (ls : List Level) → length (replenished rank k away e ls) ≤ length ls + 1
   one_longer away e k ls =
       let mark : Bool = earned rank e.side e.price (min e.display (hidden_of e.number (joined rank k e ls))) k away (joined rank k e ls) in
       omega (
@@ -130,7 +131,7 @@ module _ (rank : Ranking) (O : TotalOrder rank.good) (lot : ℕ) (es : List Orde
   few_renewed : (b : Book) (e : Order) (most : ℕ) → Underway rank lot es most b → (t : Bool) → is_reserve e.kind ≡ t → (length (replenish_order rank b e).buys ≤ most + 1) × (length (replenish_order rank b e).sells ≤ most + 1)
   few_renewed b e most h true r =
       subst (λ (c : Book). (length c.buys ≤ most + 1) × (length c.sells ≤ most + 1)) (sym (renewed_is rank b e r))
-      (longer e.side (replenished rank b.lot (away e.side b) e (side e.side b)) b most h.few_buys h.few_sells (one_longer (away e.side b) e b.lot (side e.side b)))
+      (longer e.side (replenished rank b.lot (quoted (away e.side b)) e (side e.side b)) b most h.few_buys h.few_sells (one_longer (quoted (away e.side b)) e b.lot (side e.side b)))
   few_renewed b e most h false r =
       subst (λ (c : Book). (length c.buys ≤ most + 1) × (length c.sells ≤ most + 1)) (not_renewed rank b e r) (omega (arith, h.few_buys), omega (arith, h.few_sells))
 

@@ -20,10 +20,10 @@ use trading::Progress;
 
 /// What orders traded is taken off their rows of the table, and then reserve is replenished.
 fn settle_trades<K: Ranking>(state: &mut State, rows: &[Row])
-    requires book { Underway (ranked_by K.Ranking.initial K.Ranking.good) (book_of state.old).lot (book_of state.old).orders 128 (book_of state.old) }
+    requires book { Underway (ranked_by K.initial K.good) (book_of state.old).lot (book_of state.old).orders 128 (book_of state.old) }
     requires named { AllByRecursion (Named (numbers (orders_of state.old.orders))) rows.now }
     requires enough { AllByRecursion (λ r. taken_from r.order.number rows.now ≤ r.quantity) (rows_of state.old.orders) }
-    ensures book { book_of state.new ≡ replenish_book (ranked_by K.Ranking.initial K.Ranking.good) (book_of state.old) }
+    ensures book { book_of state.new ≡ replenish_book (ranked_by K.initial K.good) (book_of state.old) }
     ensures table { rows_of state.new.orders ≡ deducted rows.now (rows_of state.old.orders) }
 {
     state.orders.deduct(rows);
@@ -38,13 +38,13 @@ pub fn match_order<K: Ranking, D: Dealing>(
     order: Order,
     report: &mut [Row],
 ) -> Progress
-    requires stands { Stands (ranked_by K.Ranking.initial K.Ranking.good) state.old }
+    requires stands { Stands (ranked_by K.initial K.good) state.old }
     requires room { 400 ≤ length report.old }
-    ensures book { book_of state.new ≡ (trade (ranked_by K.Ranking.initial K.Ranking.good) D.Dealing.meaning order (arrived order (book_of state.old))).rest }
-    ensures left { result.left ≡ (trade (ranked_by K.Ranking.initial K.Ranking.good) D.Dealing.meaning order (arrived order (book_of state.old))).left }
-    ensures rows { report.new ≡ written report.old 0 (trade (ranked_by K.Ranking.initial K.Ranking.good) D.Dealing.meaning order (arrived order (book_of state.old))).rows }
-    ensures count { result.rows ≡ length (trade (ranked_by K.Ranking.initial K.Ranking.good) D.Dealing.meaning order (arrived order (book_of state.old))).rows }
-    ensures table { rows_of state.new.orders ≡ deducted (trade (ranked_by K.Ranking.initial K.Ranking.good) D.Dealing.meaning order (arrived order (book_of state.old))).rows (rows_of state.old.orders) }
+    ensures book { book_of state.new ≡ (trade (ranked_by K.initial K.good) D.meaning order (arrived order (book_of state.old))).rest }
+    ensures left { result.left ≡ (trade (ranked_by K.initial K.good) D.meaning order (arrived order (book_of state.old))).left }
+    ensures rows { report.new ≡ written report.old 0 (trade (ranked_by K.initial K.good) D.meaning order (arrived order (book_of state.old))).rows }
+    ensures count { result.rows ≡ length (trade (ranked_by K.initial K.good) D.meaning order (arrived order (book_of state.old))).rows }
+    ensures table { rows_of state.new.orders ≡ deducted (trade (ranked_by K.initial K.good) D.meaning order (arrived order (book_of state.old))).rows (rows_of state.old.orders) }
     ensures tallied { Tallied (rows_of state.new.orders) (book_of state.new) }
 {
     state.last = order.number;

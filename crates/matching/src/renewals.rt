@@ -8,66 +8,44 @@ ghost use Rattle.matching.specs.Underway.{Underway};
 
 use allocation::Ranking;
 use memory::State;
-use resting::renew;
-use rules::{Kind, Order, Side};
-
-/// Whether a kind is reserve.
-fn is_reserve(kind: Kind) -> bool
-    ensures { result ≡ is_reserve kind }
-{
-    match kind {
-        Kind::Limit => false,
-        Kind::Hidden => false,
-        Kind::Reserve => true,
-        Kind::Immediate => false,
-        Kind::Market => false,
-    }
-}
+use resting::MarkTerms;
+use rules::Order;
 
 /// A reserve order is replenished on its side, if it runs low.
 fn replenish_reserve<K: Ranking>(state: &mut State, order: Order)
-    requires book { Underway (ranked_by K.Ranking.initial K.Ranking.good) (book_of state.old).lot (book_of state.old).orders 384 (book_of state.old) }
+    requires book { Underway (ranked_by K.initial K.good) (book_of state.old).lot (book_of state.old).orders 384 (book_of state.old) }
     requires rests { Has (book_of state.old).orders order }
     requires kind { is_reserve order.kind ≡ true }
-    ensures book { book_of state.new ≡ replenish_order (ranked_by K.Ranking.initial K.Ranking.good) (book_of state.old) order }
+    ensures book { book_of state.new ≡ replenish_order (ranked_by K.initial K.good) (book_of state.old) order }
     ensures orders { state.new.orders ≡ state.old.orders }
 {
-    match order.side {
-        Side::Buy => renew::<K>(
-            &mut state.buys,
-            order,
-            state.lot,
-            state.bid,
-            &mut state.shares,
-        ),
-        Side::Sell => renew::<K>(
-            &mut state.sells,
-            order,
-            state.lot,
-            state.offer,
-            &mut state.shares,
-        ),
-    }
+    let terms = MarkTerms {
+        lot: state.lot,
+        away: state.away(order.side),
+    };
+    let levels = state.sides.side_mut(order.side);
+    terms.replenish::<K>(levels, order, &mut state.shares);
 }
 
 /// An order is replenished: only one of the kind reserve can change.
 fn renew_order<K: Ranking>(state: &mut State, order: Order)
-    requires book { Underway (ranked_by K.Ranking.initial K.Ranking.good) (book_of state.old).lot (book_of state.old).orders 384 (book_of state.old) }
+    requires book { Underway (ranked_by K.initial K.good) (book_of state.old).lot (book_of state.old).orders 384 (book_of state.old) }
     requires rests { Has (book_of state.old).orders order }
-    ensures book { book_of state.new ≡ replenish_order (ranked_by K.Ranking.initial K.Ranking.good) (book_of state.old) order }
+    ensures book { book_of state.new ≡ replenish_order (ranked_by K.initial K.good) (book_of state.old) order }
     ensures orders { state.new.orders ≡ state.old.orders }
 {
-    if is_reserve(order.kind) {
+    if order.kind.is_reserve() {
         replenish_reserve::<K>(state, order);
     }
 }
 
 /// Every order that rests is looked at, lower number first, and reserve that runs low is replenished.
 pub(crate) fn replenish_all<K: Ranking>(state: &mut State)
-    requires { Underway (ranked_by K.Ranking.initial K.Ranking.good) (book_of state.old).lot (book_of state.old).orders 128 (book_of state.old) }
-    ensures book { book_of state.new ≡ replenish_book (ranked_by K.Ranking.initial K.Ranking.good) (book_of state.old) }
+    requires { Underway (ranked_by K.initial K.good) (book_of state.old).lot (book_of state.old).orders 128 (book_of state.old) }
+    ensures book { book_of state.new ≡ replenish_book (ranked_by K.initial K.good) (book_of state.old) }
     ensures orders { state.new.orders ≡ state.old.orders }
 {
+    // By place, since the state is lent out while its orders are gone over.
     for i in 0..state.orders.len() {
         let order = state.orders.row(i).order;
         renew_order::<K>(state, order);

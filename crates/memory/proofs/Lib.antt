@@ -1,2 +1,3 @@
 pub mod Props
-pub mod Standing
+pub mod Staying
+pub mod Lent

@@ -21,8 +21,8 @@ book_of s =
       bid = s.bid;
       offer = s.offer;
       orders = orders_of s.orders;
-      buys = levels_of s.buys;
-      sells = levels_of s.sells;
+      buys = levels_of s.sides.buys;
+      sells = levels_of s.sides.sells;
     }
 
 -- each row of the table tells how many shares of its order rest

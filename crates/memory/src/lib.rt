@@ -2,8 +2,11 @@
 #![tactic(auto)]
 
 mod replies;
+mod sides;
+mod standing;
 mod states;
 mod viewing;
 
 pub use replies::Reply;
-pub use states::State;
+pub use standing::Standing;
+pub use states::{Sides, State};

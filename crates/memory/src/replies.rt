@@ -1,9 +1,9 @@
 //! What a call gives back to its caller.
-use rules::Answer;
+use rules::Accepted;
 
-/// The answer of a call, and how many rows of the report it wrote, from the first on.
-#[derive(Clone, Copy)]
+/// What an accepted call did: the shares traded and given back, and how many rows of the report it wrote, from the first on.
+#[derive(Debug, Clone, Copy, PartialEq, Eq)]
 pub struct Reply {
-    pub answer: Answer,
+    pub accepted: Accepted,
     pub rows: usize,
 }

@@ -1,13 +1,14 @@
 //! A book's memory is made, and looked at.
 ghost use Rattle.std.specs.Prelude.{◌≡◌, ◌<◌, [], Ok as Done};
 ghost use Rattle.rules.specs.Books.{side as levels_on, away as away_price};
+ghost use Rattle.rules.specs.Marks.{quoted};
 ghost use Rattle.rules.specs.Rules.{make, new_book};
 ghost use Rattle.levels.specs.Sides.{levels_of};
 ghost use Rattle.orders.specs.Rows.{rows_of};
 ghost use Rattle.memory.specs.States.{book_of, made};
 ghost use Rattle.memory.specs.declared.states.State.{State as StateType};
 
-use super::State;
+use super::{Sides, State};
 use levels::{Levels, PARTS};
 use orders::OrderTable;
 use rules::{Phase, Refusal, Side, Step};
@@ -19,7 +20,7 @@ impl State {
         ensures rows { (s : StateType) → result ≡ Done s → rows_of s.orders ≡ [] }
         ensures lot { (s : StateType) → result ≡ Done s → 0 < lot }
     {
-        if 1 <= lot && lot <= 1_000 {
+        if (1..=1_000).contains(&lot) {
             Ok(State::new(lot))
         } else {
             Err(Refusal::RoundLot)
@@ -39,8 +40,10 @@ impl State {
             bid: 0,
             offer: 0,
             orders: OrderTable::new(),
-            buys: Levels::new(),
-            sells: Levels::new(),
+            sides: Sides {
+                buys: Levels::new(),
+                sells: Levels::new(),
+            },
             shares: [0; PARTS],
         }
     }
@@ -49,19 +52,17 @@ impl State {
     pub fn side(&self, side: Side) -> &Levels
         ensures { levels_of result.now ≡ levels_on side (book_of self.now) }
     {
-        match side {
-            Side::Buy => &self.buys,
-            Side::Sell => &self.sells,
-        }
+        self.sides.side(side)
     }
 
-    /// The away price of a side; 0 means none.
-    pub fn away(&self, side: Side) -> u32
-        ensures { result ≡ away_price side (book_of self.now) }
+    /// The away price of a side, if there is one.
+    pub fn away(&self, side: Side) -> Option<u32>
+        ensures { result ≡ quoted (away_price side (book_of self.now)) }
     {
-        match side {
+        let price = match side {
             Side::Buy => self.bid,
             Side::Sell => self.offer,
-        }
+        };
+        (price != 0).then_some(price)
     }
 }

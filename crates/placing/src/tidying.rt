@@ -13,6 +13,6 @@ pub fn tidy(state: &mut State)
     ensures tallied { Tallied (rows_of state.new.orders) (book_of state.new) }
 {
     state.orders.drop_spent();
-    state.buys.tidy();
-    state.sells.tidy();
+    state.sides.buys.tidy();
+    state.sides.sells.tidy();
 }

@@ -1,43 +1,42 @@
 //! A book is looked at. Nothing here lets a caller change it.
-ghost use Rattle.std.specs.Prelude.{◌≡◌, map};
+ghost use Rattle.std.specs.Prelude.{◌≡◌};
 ghost use Rattle.rules.specs.Books.{side as levels_on, away as away_price};
+ghost use Rattle.rules.specs.Marks.{quoted};
 ghost use Rattle.levels.specs.Sides.{levels_of};
 ghost use Rattle.orders.specs.Rows.{orders_of};
-ghost use Rattle.memory.specs.States.{book_of};
 
-use super::RankedBook;
-use crate::keeping::RankedMemory;
-use allocation::Dealing;
+use super::Book;
+use allocation::{Dealing, Ranking};
 use levels::Levels;
 use orders::OrderTable;
 use rules::{Phase, Side};
 
-impl<M: RankedMemory, D: Dealing> RankedBook<M, D> {
+impl<K: Ranking, D: Dealing> Book<K, D> {
     /// The price levels of a side, best price first: at each its price, and of each category the parts by working time and the wheel.
     pub fn side(&self, side: Side) -> &Levels
-        ensures { levels_of result.now ≡ levels_on side (book_of (M.RankedMemory.state self.now.memory)) }
+        ensures { levels_of result.now ≡ levels_on side self.now }
     {
-        self.memory.look().side(side)
+        self.memory.state.side(side)
     }
 
     /// The orders that rest, by rising number.
     pub fn orders(&self) -> &OrderTable
-        ensures { orders_of result.now ≡ (book_of (M.RankedMemory.state self.now.memory)).orders }
+        ensures { orders_of result.now ≡ self.now.orders }
     {
-        &self.memory.look().orders
+        &self.memory.state.orders
     }
 
-    /// The away price of a side; 0 means none.
-    pub fn away(&self, side: Side) -> u32
-        ensures { result ≡ away_price side (book_of (M.RankedMemory.state self.now.memory)) }
+    /// The away price of a side, if there is one.
+    pub fn away(&self, side: Side) -> Option<u32>
+        ensures { result ≡ quoted (away_price side self.now) }
     {
-        self.memory.look().away(side)
+        self.memory.state.away(side)
     }
 
     /// The phase.
     pub fn phase(&self) -> Phase
-        ensures { result ≡ (book_of (M.RankedMemory.state self.now.memory)).phase }
+        ensures { result ≡ self.now.phase }
     {
-        self.memory.look().phase
+        self.memory.state.phase
     }
 }

@@ -1,26 +1,18 @@
-use Rattle.std.proofs.Common.{sym, refl, ap, ◌∙◌, subst}
-use Rattle.std.specs.List.{AllByRecursion}
-use Rattle.rules.specs.declared.orders.Side.TheVariants.{Buy, Sell}
-use Rattle.rules.specs.Books.{Book, side, other, with_sides}
-use Rattle.resting.specs.Alone.{Without}
+use Rattle.std.proofs.Common.{sym, ap, ◌∙◌}
+use Rattle.rules.specs.Books.{Book, with_side}
+use Rattle.rules.specs.TakingOff.{take_off_side}
 use Rattle.memory.specs.States.{book_of}
+use Rattle.memory.proofs.Lent.{side_lent, side_is}
 use Rattle.giving_back.proofs.Taken.{off_on}
 use Rattle.giving_back.proofs.offs.take_off_order.Goals as goal
 
-pub returns-in-Buy : goal.returns-in-Buy
-returns-in-Buy c =
-    let b : Book = book_of c.args.state.now in
+pub returns-clause-book : goal.returns-clause-book
+returns-clause-book c =
+    let s = c.args.state.now in
+    let b : Book = book_of s in
+    let t = c.args.order.side in
     let n = c.args.order.number in
-    record {
-      book = ap (λ ls. with_sides ls b.sells b) c.take_off_side.ensures ∙ sym (off_on b.lot n c.args.quantity Buy b (subst (λ s. AllByRecursion (Without b.lot n) (side (other s) b)) c.in-Buy.is c.requires.elsewhere));
-      rows = refl;
-    }
-
-pub returns-in-Sell : goal.returns-in-Sell
-returns-in-Sell c =
-    let b : Book = book_of c.args.state.now in
-    let n = c.args.order.number in
-    record {
-      book = ap (λ ls. with_sides b.buys ls b) c.take_off_side-in-Sell.ensures ∙ sym (off_on b.lot n c.args.quantity Sell b (subst (λ s. AllByRecursion (Without b.lot n) (side (other s) b)) c.in-Sell.is c.requires.elsewhere));
-      rows = refl;
-    }
+    let m = c.args.quantity in
+    side_lent s t c.take_off_side.new.levels
+    ∙ ap (λ ls. with_side t ls b) (c.take_off_side.ensures ∙ ap (take_off_side n m) (c.side_mut-levels.ensures.value ∙ side_is s t))
+    ∙ sym (off_on b.lot n m t b c.requires.elsewhere)

@@ -1,3 +1,5 @@
+use Rattle.std.proofs.Common.{ap, ◌∙◌}
+use Rattle.std.specs.Bool.{then_some}
 use Rattle.memory.specs.States.{book_of}
 use Rattle.matching.proofs.Reaching.{reach_is}
 use Rattle.matching.proofs.opposites.reach_of.Goals as goal
@@ -6,5 +8,5 @@ pub returns : goal.returns
 returns c =
     record {
       side = c.opposite-side.ensures;
-      prices = λ rank. reach_is rank (book_of c.args.state.now) c.args.order c.opposite-side.result c.is_limited.result c.away.result c.opposite-side.ensures c.is_limited.ensures c.away.ensures;
+      prices = λ rank. reach_is rank (book_of c.args.state.now) c.args.order c.opposite-side.result c.then_some.result c.away.result c.opposite-side.ensures (c.then_some.ensures ∙ ap (λ t. then_some t c.args.order.price) c.has_limit.ensures) c.away.ensures;
     }

@@ -1,21 +1,18 @@
-use Rattle.std.proofs.Common.{refl}
+use Rattle.std.proofs.Common.{ap, ◌∙◌}
 use Rattle.rules.specs.Books.{ranked_by}
-use Rattle.rules.specs.declared.orders.Side.TheVariants.{Buy, Sell}
 use Rattle.levels.specs.Sides.{levels_of}
 use Rattle.memory.specs.States.{book_of}
+use Rattle.memory.proofs.Lent.{side_lent, side_is}
+use Rattle.placing.specs.Placed.{placed}
 use Rattle.placing.proofs.Rests.{placed_side}
 use Rattle.placing.proofs.placing.place_parts.Goals as goal
 
-pub returns-in-Buy : goal.returns-in-Buy
-returns-in-Buy g c =
-    record {
-      book = placed_side (ranked_by g.K.Ranking.initial g.K.Ranking.good) c.args.order c.args.left c.away-away.result (book_of c.args.state.now) Buy (levels_of c.place_on.new.levels) c.requires.rests c.in-Buy.is c.away-away.ensures c.place_on.ensures;
-      table = refl;
-    }
-
-pub returns-in-Sell : goal.returns-in-Sell
-returns-in-Sell g c =
-    record {
-      book = placed_side (ranked_by g.K.Ranking.initial g.K.Ranking.good) c.args.order c.args.left c.away-away.result (book_of c.args.state.now) Sell (levels_of c.place_on-in-Sell.new.levels) c.requires.rests c.in-Sell.is c.away-away.ensures c.place_on-in-Sell.ensures;
-      table = refl;
-    }
+pub returns-clause-book : goal.returns-clause-book
+returns-clause-book g c =
+    let rank = ranked_by g.K.Ranking.initial g.K.Ranking.good in
+    let s = c.args.state.now in
+    let e = c.args.order in
+    let n = c.args.left in
+    side_lent s e.side c.place_on.new.levels
+    ∙ placed_side rank e n c.away.result (book_of s) (levels_of c.place_on.new.levels) c.requires.rests c.away.ensures
+    (c.place_on.ensures ∙ ap (placed rank e.kind s.lot c.away.result e n) (c.side_mut.ensures.value ∙ side_is s e.side))

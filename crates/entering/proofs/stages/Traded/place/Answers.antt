@@ -54,11 +54,8 @@ place_order-requires g c =
     let k : rests e.kind ≡ true = placed_rests rank b e (sym c.is_given_back.ensures ∙ c.if-is_given_back.false) in
     record {
       rests = k;
-      known = c.requires.ready.known;
-      small = omega (arith, c.requires.ready.small, c.requires.ready.left);
+      fits = record { known = c.requires.ready.known; small = omega (arith, c.requires.ready.small, c.requires.ready.left); parts = c.requires.ready.parts k; prices = c.requires.ready.prices k };
       table = omega (arith, c.requires.ready.table k, length-map (rows_of c.args.state.now.orders) (λ (r : Resting). r.order));
-      parts = c.requires.ready.parts k;
-      prices = c.requires.ready.prices k;
     }
 
 pub returns : goal.returns

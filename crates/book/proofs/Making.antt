@@ -1,23 +1,16 @@
--- A memory that is made stands, and a call leaves it standing.
-use Rattle.std.proofs.Common.{◌≡◌, ℕ, ◌<◌, Bool, true, false, cond, leb, List, [], Ok, Err, Result, sym, refl, ap, ◌∙◌, subst, arith}
+-- What is promised of a book that is made. Assumes nothing.
+use Rattle.std.proofs.Common.{◌≡◌, ℕ, ◌<◌, Bool, true, false, cond, leb, Ok, Err, Result, sym, refl, ap, subst, arith}
 use Rattle.std.proofs.lemmas.Bool.{leb-true, and_parts, not-false}
 use Rattle.allocation.specs.Rankings.{TotalOrder}
 use Rattle.allocation.specs.Dealings.{Deal, Lawful}
-use Rattle.rules.specs.declared.calls.Call.{Call}
-use Rattle.rules.specs.declared.answers.Row.{Row}
 use Rattle.rules.specs.declared.answers.Refusal.{Refusal}
 use Rattle.rules.specs.Books.{Ranking, Book}
 use Rattle.rules.specs.Refusals.{bad_lot, within}
 use Rattle.rules.specs.Rules.{make, new_book, steps}
 use Rattle.rules.proofs.Whole.{laws}
 use Rattle.book.specs.Promises.{Promises}
-use Rattle.orders.specs.Rows.{rows_of}
-use Rattle.memory.specs.States.{book_of, made, Stands}
-use Rattle.memory.specs.Following.{Follows}
+use Rattle.memory.specs.States.{book_of}
 use Rattle.memory.specs.declared.states.State.{State}
-use Rattle.memory.specs.declared.replies.Reply.{Reply}
-use Rattle.memory.proofs.Props.{standing}
-use Rattle.memory.proofs.Standing.{new_stands, stays}
 
 abbrev book_in : Book → Result Book Refusal → Book
 book_in d (Ok b) = b
@@ -29,15 +22,6 @@ book_made s lot e = go (bad_lot lot) e
     go : (t : Bool) → Ok (book_of s) ≡ cond t (Err Refusal.RoundLot) (Ok (new_book lot)) → book_of s ≡ new_book lot
     go false e = ap (book_in (new_book lot)) e
     go true e = ap (book_in (new_book lot)) e
-
-module _ (rank : Ranking) (O : TotalOrder rank.good) where
-  pub makes : (deal : Deal) → Lawful deal → (r : Result State Refusal) (s : State) (lot : ℕ) → r ≡ Ok s → made (λ x. x) r ≡ make lot → 0 < lot → rows_of s.orders ≡ [] → ∥ Stands rank s ∥₁
-  makes deal D r s lot is e pos none = ∣ new_stands rank O deal D s lot pos (book_made s lot (ap (made (λ x. x)) (sym is) ∙ e)) none ∣₁
-
-  pub keeps : (deal : Deal) → Lawful deal → {c : Call} {before after : State} {rows rows' : List Row} {r : Reply} → Follows rank deal c before rows after rows' r → ∥ Stands rank before ∥₁ → ∥ Stands rank after ∥₁
-  keeps deal D f h = ∣ stays rank O deal D _ _ _ _ _ _ f (standing rank _ h) ∣₁
-
--- ## What is promised
 
 abbrev is_made : Result Book Refusal → ℕ
 is_made (Ok b) = 1
