@@ -44,6 +44,7 @@ fn bad_price(kind: Kind, price: u32) -> bool
     }
 }
 
+// The lot above 0 is asked here and below: the lot is a number of the book's, and no type of its own would be plainer.
 /// A display quantity is a positive multiple of the round lot up to the quantity for a reserve order, and 0 for any other.
 fn bad_display(lot: u32, kind: Kind, quantity: u32, display: u32) -> bool
     requires { 0 < lot }

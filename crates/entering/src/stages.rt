@@ -53,6 +53,7 @@ fn is_given_back<K: Ranking>(state: &State, order: Order) -> bool
 }
 
 impl Arrived {
+    // A state, and not one that stands by its type: until it is tidied, levels may be empty and orders spent.
     /// The order trades with the other side, and reserve is replenished. Its rows stand first in the report.
     pub fn trade<K: Ranking, D: Dealing>(
         self,

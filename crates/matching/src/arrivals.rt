@@ -30,6 +30,7 @@ fn settle_trades<K: Ranking>(state: &mut State, rows: &[Row])
     replenish_all::<K>(state);
 }
 
+// A state, and not one that stands by its type: when this ends, levels may be empty and orders spent.
 /// An accepted order's number is spent; the order trades with the other side, what orders traded is taken off their rows
 /// of the table, and then reserve is replenished. Where nothing traded no reserve runs low.
 pub fn match_order<K: Ranking, D: Dealing>(

@@ -15,6 +15,7 @@ use levels::Levels;
 use rules::Row;
 
 impl<D: Dealing> Terms<'_, D> {
+    // Side, report, room and how far it has come are the caller's, here and below: a struct of these loans would be made anew at each call.
     /// Trading at one price, step after step of the table. `room` is for the shares.
     pub fn trade_price(
         &self,
@@ -40,7 +41,7 @@ impl<D: Dealing> Terms<'_, D> {
         now
     }
 
-    // Beside trade_best_first, which is faster, since this asks nothing of how the levels stand.
+    // Beside trade_best_first, which is faster, since this asks nothing of the order of the levels.
     /// Trading with a side: at every price in reach, in the order of its levels.
     pub fn trade_side<K: Ranking>(
         &self,

@@ -14,6 +14,7 @@ use levels::Levels;
 use rules::Row;
 
 impl<D: Dealing> Terms<'_, D> {
+    // Side, report, room and how far it has come are the caller's: a struct of these loans would be made anew at each call.
     /// Trading with a side whose levels stand best price first. It ends at the first price out of reach: those behind it are out of reach too.
     pub fn trade_best_first<K: Ranking>(
         &self,
