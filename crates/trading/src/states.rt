@@ -1,14 +1,14 @@
 //! What an arriving order trades by, and how far it has come.
-ghost use Rattle.std.specs.Prelude.{◌≡◌};
+ghost use Rattle.std.specs.Prelude.{◌≡◌, ⊤};
 ghost use Rattle.rules.specs.Books.{ranked_by};
 ghost use Rattle.trading.specs.Reached.{reached};
 
 use allocation::Ranking;
 use levels::at_least;
 use rules::{Side, Step};
+use std::alloc::AllocError;
 
 /// What stays the same while an order trades.
-#[derive(Drop)]
 pub struct Terms<'a, D> {
     /// The round lot.
     pub lot: u32,
@@ -19,6 +19,19 @@ pub struct Terms<'a, D> {
     /// How the shares of a step are dealt.
     pub dealing: &'a D,
 }
+
+// Not derived: that would ask of a dealing that it is copied, where only a loan of it is.
+impl<D> Clone for Terms<'_, D> {
+    ghost is_clone = { λ x y. y ≡ x };
+
+    ghost is_infallible = { λ _. ⊤ };
+
+    fn clone(&self) -> Result<Self, AllocError> {
+        Ok(*self)
+    }
+}
+
+impl<D> Copy for Terms<'_, D> {}
 
 /// How far trading has come.
 #[derive(Clone, Copy, Debug, PartialEq, Eq)]
